@@ -1,0 +1,29 @@
+-- The first n elements of an array, walked from the front, and grown at the end.
+use Prim.Native.Nat.{ℕ, suc, _+_, _≤_, _<_}
+use mathlib.Core.Path.{_≡_, refl, sym, _∙_}
+use mathlib.Core.List.{List, [], _∷_, _++_, map}
+use native.Mathlib.Numerals.{add-one}
+use native.Mathlib.Omega.{arith}
+use lib.ListN.{length, take, drop, getD, set, length-map}
+use lib.Seq.{drop-cons, getD-take, length-take-le, drop-length, take-suc-set}
+
+module _ {A : Type 0} where
+  -- what is left at i begins with the element at i
+  pub peel : (es : List A) (n i : ℕ) (d : A) → n ≤ length es → i < n → drop i (take n es) ≡ getD es i d ∷ drop (i + 1) (take n es)
+  peel es n i d l h =
+      let k : i < length (take n es) = rw (length-take-le n es l) h in
+      rw (drop-cons (take n es) i d k, getD-take n es i d h, add-one i)
+
+  -- nothing is left at n
+  pub peeled : (es : List A) (n i : ℕ) → n ≤ length es → n ≤ i → i ≤ n → drop i (take n es) ≡ []
+  peeled es n i l h k =
+      let e : i ≡ length (take n es) = rw (length-take-le n es l) (omega arith) in
+      rw (e, drop-length)
+
+  -- an element stored behind the first k is one more of them
+  pub push : (es : List A) (k : ℕ) (a : A) → k < length es → take (k + 1) (set es k a) ≡ take k es ++ (a ∷ [])
+  push es k a h = rw (add-one k, take-suc-set es k a h)
+
+-- the length of an array of structs, of which the logic tells the length of a map: `search (unmapped, needs)`
+pub unmapped : {X Y : Type 0} (f : X → Y) (l : List X) (n : ℕ) → length (map f l) ≡ n → length l ≡ n
+unmapped f l n e = sym (length-map l f) ∙ e

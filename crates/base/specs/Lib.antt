@@ -1,0 +1,4 @@
+pub mod Refusals
+pub mod Floats
+pub mod Lists
+pub mod Sheets

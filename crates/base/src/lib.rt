@@ -1,0 +1,74 @@
+// What every crate shares: document 01's refusals, and `abs` and `min` on floats.
+ghost use mathlib.Core.Path.{_≡_};
+ghost use Rattle.base.specs.Refusals.{refusalNumber};
+ghost use Rattle.base.specs.Floats.{absOf, minOf};
+
+// Document 01's twelve refusals, in the order of its table.
+pub enum Refusal {
+    OverLimit,
+    BadRoster,
+    ShortSheet,
+    Clock,
+    Unranked,
+    TooWide,
+    KeyClash,
+    BookFull,
+    AlreadyWaiting,
+    HallFull,
+    NotWaiting,
+    NoSeats,
+}
+
+// What a check answers.
+pub enum Checked {
+    Passed,
+    Refused(Refusal),
+}
+
+impl Refusal {
+    // The number that document 01's table gives the refusal.
+    pub fn number(self) -> u8
+        ensures { λ r. ⌜ r ≡ refusalNumber self ⌝ }
+    {
+        match self {
+            Refusal::OverLimit => 1,
+            Refusal::BadRoster => 2,
+            Refusal::ShortSheet => 3,
+            Refusal::Clock => 4,
+            Refusal::Unranked => 5,
+            Refusal::TooWide => 6,
+            Refusal::KeyClash => 7,
+            Refusal::BookFull => 8,
+            Refusal::AlreadyWaiting => 9,
+            Refusal::HallFull => 10,
+            Refusal::NotWaiting => 11,
+            Refusal::NoSeats => 12,
+        }
+    }
+}
+
+// `x` without its sign: +0.0 for either zero, and NaN for NaN.
+pub fn abs(x: f64) -> f64
+    ensures { λ r. ⌜ r ≡ absOf x ⌝ }
+{
+    if x < 0.0 {
+        return -x;
+    }
+    if x == 0.0 {
+        return 0.0;
+    }
+    x
+}
+
+// The smaller of the two, as Rust's f64::min has it: a NaN is passed over.
+pub fn min(x: f64, y: f64) -> f64
+    ensures { λ r. ⌜ r ≡ minOf x y ⌝ }
+{
+    if x < y {
+        return x;
+    }
+    if y != y {
+        return x;
+    }
+    y
+}
