@@ -1,0 +1,239 @@
+//! One function of the library beside its Rust and its refusals, and the judging of a case.
+
+use crate::draw::Scale;
+use crate::rng::Rng;
+use crate::same::Same;
+use crate::words::Words;
+use std::cell::Cell;
+use std::fmt::Debug;
+use std::panic::{AssertUnwindSafe, catch_unwind, set_hook, take_hook};
+use std::sync::Once;
+
+pub trait Function {
+    /// Its name in the report.
+    const NAME: &'static str;
+    /// False where only the model can tell right from wrong.
+    const HAS_RUST: bool = true;
+    /// True where it takes no input: one case says it all.
+    const ONE_CASE: bool = false;
+
+    type Case: Debug;
+    /// All that a call gives or changes.
+    type Answer: Debug + Same;
+
+    fn draw(rng: &mut Rng, scale: Scale) -> Self::Case;
+    /// The model's refusal, 0 for none.
+    fn refusal(case: &Self::Case) -> u8;
+    /// What a refused call answers: nothing found, nothing changed.
+    fn refused(case: &Self::Case) -> Self::Answer;
+    /// What the unchanged Rust answers; asked only where the model does not refuse.
+    fn rust(case: &Self::Case) -> Self::Answer;
+    fn library(case: &Self::Case) -> (u8, Self::Answer);
+}
+
+/// A function with stored answers.
+pub trait Stored: Function {
+    /// The first word of its lines.
+    const CODE: u64;
+
+    fn write_case(case: &Self::Case, words: &mut Words);
+    fn write_answer(case: &Self::Case, answer: &Self::Answer, words: &mut Words);
+}
+
+/// A line of the table of functions.
+pub struct Listed {
+    pub name: &'static str,
+    pub one_case: bool,
+    pub judge: fn(&mut Rng) -> Verdict,
+    pub store: Option<fn(&mut Rng) -> Option<String>>,
+}
+
+/// Compared only.
+pub const fn compared<F: Function>() -> Listed {
+    Listed {
+        name: F::NAME,
+        one_case: F::ONE_CASE,
+        judge: judge::<F>,
+        store: None,
+    }
+}
+
+/// Compared, and stored too.
+pub const fn stored<F: Stored>() -> Listed {
+    Listed {
+        store: Some(store::<F>),
+        ..compared::<F>()
+    }
+}
+
+/// Where the expected answer of a case came from.
+#[derive(Clone, Copy, Debug, PartialEq)]
+pub enum Source {
+    Rust,
+    Model,
+    Refusal(u8),
+    /// The Rust panicked: only the absence of a refusal is checked.
+    Panic,
+}
+
+pub struct Verdict {
+    pub source: Source,
+    /// The case in words, where library and expectation differ.
+    pub difference: Option<String>,
+}
+
+/// Draws a case and runs both sides on it.
+pub fn judge<F: Function>(rng: &mut Rng) -> Verdict {
+    let case = F::draw(rng, Scale::Full);
+    let (source, expected) = expected::<F>(&case);
+    let (refusal, answer) = F::library(&case);
+    let wanted = number(source);
+    let agrees = refusal == wanted && expected.iter().all(|e| e.same(&answer));
+    let difference = (!agrees).then(|| {
+        let expected = expected.map_or("unknown, the Rust panics".into(), |e| format!("{e:?}"));
+        format!(
+            "  case:     {case:?}\n  expected: refusal {wanted}, {expected}\n  library:  refusal {refusal}, {answer:?}"
+        )
+    });
+    Verdict { source, difference }
+}
+
+/// A stored line, or none where the Rust panics.
+fn store<F: Stored>(rng: &mut Rng) -> Option<String> {
+    let case = F::draw(rng, Scale::Stored);
+    let (source, expected) = expected::<F>(&case);
+    let answer = expected?;
+    let mut words = Words::default();
+    words.number(F::CODE);
+    F::write_case(&case, &mut words);
+    words.number(u64::from(number(source)));
+    F::write_answer(&case, &answer, &mut words);
+    Some(words.line())
+}
+
+fn expected<F: Function>(case: &F::Case) -> (Source, Option<F::Answer>) {
+    match F::refusal(case) {
+        0 => match caught(|| F::rust(case)) {
+            Some(answer) if F::HAS_RUST => (Source::Rust, Some(answer)),
+            Some(answer) => (Source::Model, Some(answer)),
+            None => (Source::Panic, None),
+        },
+        number => (Source::Refusal(number), Some(F::refused(case))),
+    }
+}
+
+fn number(source: Source) -> u8 {
+    match source {
+        Source::Refusal(number) => number,
+        _ => 0,
+    }
+}
+
+thread_local! {
+    static QUIET: Cell<bool> = const { Cell::new(false) };
+}
+
+/// What `run` gives, or none where it panics, without a word on the screen.
+pub fn caught<T>(run: impl FnOnce() -> T) -> Option<T> {
+    static HOOK: Once = Once::new();
+    HOOK.call_once(|| {
+        let usual = take_hook();
+        set_hook(Box::new(move |info| {
+            if !QUIET.get() {
+                usual(info);
+            }
+        }));
+    });
+    QUIET.set(true);
+    let result = catch_unwind(AssertUnwindSafe(run)).ok();
+    QUIET.set(false);
+    result
+}
+
+#[cfg(test)]
+mod tests {
+    use super::*;
+
+    /// Refuses 3 with 9; its Rust doubles and panics at 5; its library is wrong at 7 and 8.
+    struct Doubling;
+
+    thread_local! {
+        static NEXT: Cell<u64> = const { Cell::new(0) };
+    }
+
+    impl Function for Doubling {
+        const NAME: &'static str = "doubling";
+        type Case = u64;
+        type Answer = u64;
+
+        fn draw(_: &mut Rng, _: Scale) -> u64 {
+            NEXT.get()
+        }
+        fn refusal(case: &u64) -> u8 {
+            if *case == 3 { 9 } else { 0 }
+        }
+        fn refused(case: &u64) -> u64 {
+            *case
+        }
+        fn rust(case: &u64) -> u64 {
+            assert_ne!(*case, 5);
+            case * 2
+        }
+        fn library(case: &u64) -> (u8, u64) {
+            match case {
+                3 => (9, 3),
+                7 => (9, 14),
+                8 => (0, 17),
+                _ => (0, case * 2),
+            }
+        }
+    }
+
+    impl Stored for Doubling {
+        const CODE: u64 = 99;
+        fn write_case(case: &u64, words: &mut Words) {
+            words.number(*case);
+        }
+        fn write_answer(_: &u64, answer: &u64, words: &mut Words) {
+            words.number(*answer);
+        }
+    }
+
+    fn verdict(case: u64) -> Verdict {
+        NEXT.set(case);
+        judge::<Doubling>(&mut Rng::new(0))
+    }
+
+    fn line(case: u64) -> Option<String> {
+        NEXT.set(case);
+        store::<Doubling>(&mut Rng::new(0))
+    }
+
+    #[test]
+    fn agreement() {
+        assert!(verdict(1).difference.is_none());
+        assert_eq!(verdict(1).source, Source::Rust);
+        assert!(verdict(3).difference.is_none());
+        assert_eq!(verdict(3).source, Source::Refusal(9));
+    }
+
+    #[test]
+    fn wrong_answers_and_refusals_are_found() {
+        let wrong = verdict(8).difference.expect("17 is not 16");
+        assert!(wrong.contains("refusal 0, 16") && wrong.contains("refusal 0, 17"));
+        assert!(verdict(7).difference.is_some());
+    }
+
+    #[test]
+    fn panics_are_counted_apart() {
+        assert_eq!(verdict(5).source, Source::Panic);
+        assert!(verdict(5).difference.is_none());
+    }
+
+    #[test]
+    fn stored_lines_come_from_rust_and_model() {
+        assert_eq!(line(8).as_deref(), Some("63 8 0 10"));
+        assert_eq!(line(3).as_deref(), Some("63 3 9 3"));
+        assert_eq!(line(5), None);
+    }
+}

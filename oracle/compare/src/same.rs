@@ -1,0 +1,142 @@
+//! When two answers are the same: floats bit for bit, save that all NaNs are equal and both zeros are equal.
+
+use yilgashe_sys::{Queue, QueueEntry};
+
+pub trait Same {
+    fn same(&self, other: &Self) -> bool;
+}
+
+impl Same for f64 {
+    fn same(&self, other: &Self) -> bool {
+        let nans = self.is_nan() && other.is_nan();
+        let zeros = *self == 0.0 && *other == 0.0;
+        nans || zeros || self.to_bits() == other.to_bits()
+    }
+}
+
+/// All else exactly.
+macro_rules! exactly {
+    ($($kind:ty),*) => {
+        $(impl Same for $kind {
+            fn same(&self, other: &Self) -> bool {
+                self == other
+            }
+        })*
+    };
+}
+exactly!((), bool, u8, u32, u64, usize);
+
+impl<T: Same> Same for [T] {
+    fn same(&self, other: &Self) -> bool {
+        self.len() == other.len() && self.iter().zip(other).all(|(a, b)| a.same(b))
+    }
+}
+
+impl<T: Same> Same for Vec<T> {
+    fn same(&self, other: &Self) -> bool {
+        self.as_slice().same(other.as_slice())
+    }
+}
+
+impl<T: Same> Same for Option<T> {
+    fn same(&self, other: &Self) -> bool {
+        match (self, other) {
+            (Some(a), Some(b)) => a.same(b),
+            (None, None) => true,
+            _ => false,
+        }
+    }
+}
+
+impl<A: Same, B: Same> Same for (A, B) {
+    fn same(&self, other: &Self) -> bool {
+        self.0.same(&other.0) && self.1.same(&other.1)
+    }
+}
+
+impl Same for QueueEntry {
+    fn same(&self, other: &Self) -> bool {
+        self.player == other.player
+            && self.joined == other.joined
+            && self.rating.same(&other.rating)
+            && self.party == other.party
+            && self.role == other.role
+    }
+}
+
+/// Places past `len` are free; a queue of `len` over 64 counts with all its places.
+impl Same for Queue {
+    fn same(&self, other: &Self) -> bool {
+        self.len == other.len && self.waiting().same(other.waiting())
+    }
+}
+
+#[cfg(test)]
+mod tests {
+    use super::*;
+
+    #[test]
+    fn floats() {
+        let negative_nan = f64::from_bits(0xfff0_0000_0000_0001);
+        assert!(f64::NAN.same(&negative_nan));
+        assert!(0.0.same(&-0.0));
+        assert!(1.0.same(&1.0));
+        assert!(!1.0.same(&f64::from_bits(1.0f64.to_bits() + 1)));
+        assert!(!0.0.same(&f64::from_bits(1)));
+        assert!(!f64::NAN.same(&0.0));
+        assert!(!f64::INFINITY.same(&f64::NEG_INFINITY));
+    }
+
+    #[test]
+    fn lists_and_options() {
+        assert!(vec![f64::NAN, 0.0].same(&vec![-f64::NAN, -0.0]));
+        assert!(!vec![1u64].same(&vec![1, 2]));
+        assert!(!Some(1u64).same(&None));
+        assert!(!(1u64, true).same(&(1, false)));
+    }
+
+    fn entry(player: u64) -> QueueEntry {
+        QueueEntry {
+            player,
+            joined: 1,
+            rating: 2.0,
+            party: 3,
+            role: 4,
+        }
+    }
+
+    #[test]
+    fn entries_differ_in_each_field() {
+        let one = entry(1);
+        assert!(one.same(&one));
+        assert!(!one.same(&entry(2)));
+        assert!(!one.same(&QueueEntry { joined: 9, ..one }));
+        assert!(!one.same(&QueueEntry { rating: 9.0, ..one }));
+        assert!(!one.same(&QueueEntry { party: 9, ..one }));
+        assert!(!one.same(&QueueEntry { role: 9, ..one }));
+    }
+
+    #[test]
+    fn queues_count_up_to_len() {
+        let queue = Queue::of(&[entry(1), entry(2)]);
+        let mut other = queue;
+        other.entries[2] = entry(9);
+        assert!(queue.same(&other));
+        other.entries[1] = entry(9);
+        assert!(!queue.same(&other));
+        assert!(!queue.same(&Queue::of(&[entry(1)])));
+    }
+
+    #[test]
+    fn queues_over_limit_count_whole() {
+        let mut queue = Queue::of(&[entry(1); 64]);
+        queue.len = 65;
+        let mut other = queue;
+        assert!(queue.same(&other));
+        other.entries[63] = entry(9);
+        assert!(!queue.same(&other));
+        other = queue;
+        other.len = 66;
+        assert!(!queue.same(&other));
+    }
+}

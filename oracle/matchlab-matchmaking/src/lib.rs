@@ -1,0 +1,3 @@
+//! matchlab-matchmaking: the published files, unchanged.
+
+include!(concat!(env!("OUT_DIR"), "/modules.rs"));

@@ -1,0 +1,3 @@
+//! Stand-in for serde: matchlab names just these two derives here.
+
+pub use serde_derive::{Deserialize, Serialize};

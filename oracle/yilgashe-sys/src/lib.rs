@@ -1,0 +1,183 @@
+//! The C interface of libcapi.a: its structs, its functions, and thin safe wrappers over slices.
+//!
+//! A refusal is 0 for none, else the number of document 01.
+
+mod show;
+
+/// One waiting player; party 0 and role 0 mean none.
+#[repr(C)]
+#[derive(Clone, Copy, Default)]
+pub struct QueueEntry {
+    pub player: u64,
+    pub joined: u64,
+    pub rating: f64,
+    pub party: u64,
+    pub role: u32,
+}
+
+/// The first `len` entries wait; places past `len` mean nothing.
+#[repr(C)]
+#[derive(Clone, Copy)]
+pub struct Queue {
+    pub entries: [QueueEntry; 64],
+    pub len: usize,
+}
+
+#[repr(C)]
+#[derive(Clone, Copy)]
+pub struct Enqueued {
+    pub queue: Queue,
+    pub refusal: u8,
+}
+
+/// `entry` has a meaning only where `found`.
+#[repr(C)]
+#[derive(Clone, Copy)]
+pub struct Removed {
+    pub queue: Queue,
+    pub entry: QueueEntry,
+    pub found: bool,
+    pub refusal: u8,
+}
+
+#[repr(C)]
+#[derive(Clone, Copy)]
+pub struct Batch {
+    pub kept: Queue,
+    pub removed: Queue,
+    pub refusal: u8,
+}
+
+/// `nanos` is 0 where not found or refused.
+#[repr(C)]
+#[derive(Clone, Copy, Debug)]
+pub struct Wait {
+    pub nanos: u64,
+    pub found: bool,
+    pub refusal: u8,
+}
+
+/// `nanos` is 0 where refused.
+#[repr(C)]
+#[derive(Clone, Copy, Debug)]
+pub struct Duration {
+    pub nanos: u64,
+    pub refusal: u8,
+}
+
+/// `seconds` is 0.0 where refused.
+#[repr(C)]
+#[derive(Clone, Copy, Debug)]
+pub struct Seconds {
+    pub seconds: f64,
+    pub refusal: u8,
+}
+
+const _: () = {
+    assert!(size_of::<QueueEntry>() == 40);
+    assert!(size_of::<Queue>() == 2568);
+    assert!(size_of::<Enqueued>() == 2576);
+    assert!(size_of::<Removed>() == 2616);
+    assert!(size_of::<Batch>() == 5144);
+    assert!(size_of::<Wait>() == 16);
+    assert!(size_of::<Duration>() == 16);
+    assert!(size_of::<Seconds>() == 16);
+};
+
+impl Queue {
+    /// Holds `entries`, with `len` saying so; at most 64.
+    pub fn of(entries: &[QueueEntry]) -> Self {
+        let mut queue = Queue {
+            entries: [QueueEntry::default(); 64],
+            len: entries.len(),
+        };
+        queue.entries[..entries.len()].copy_from_slice(entries);
+        queue
+    }
+
+    /// The entries that wait; all 64 where `len` is over 64.
+    pub fn waiting(&self) -> &[QueueEntry] {
+        &self.entries[..self.len.min(64)]
+    }
+}
+
+// Functions without a pointer are safe: each is total over every input.
+unsafe extern "C" {
+    safe fn yilgashe_queue_empty() -> Queue;
+    safe fn yilgashe_queue_enqueue(queue: Queue, entry: QueueEntry) -> Enqueued;
+    safe fn yilgashe_queue_remove(queue: Queue, player: u64) -> Removed;
+    fn yilgashe_queue_remove_batch(queue: Queue, ids: *const u64, ids_len: usize) -> Batch;
+    safe fn yilgashe_queue_waiting_time(queue: Queue, player: u64, now: u64) -> Wait;
+    safe fn yilgashe_time_duration_since(later: u64, earlier: u64) -> Duration;
+    safe fn yilgashe_time_as_secs_f64(nanos: u64) -> Seconds;
+    fn yilgashe_roster_check(
+        ids: *const u64,
+        ids_len: usize,
+        ratings: *const f64,
+        ratings_len: usize,
+        deviations: *const f64,
+        deviations_len: usize,
+        parties: *const u64,
+        parties_len: usize,
+        roles: *const u32,
+        roles_len: usize,
+        regions: *const u8,
+        regions_len: usize,
+    ) -> u8;
+}
+
+pub fn queue_empty() -> Queue {
+    yilgashe_queue_empty()
+}
+
+pub fn queue_enqueue(queue: Queue, entry: QueueEntry) -> Enqueued {
+    yilgashe_queue_enqueue(queue, entry)
+}
+
+pub fn queue_remove(queue: Queue, player: u64) -> Removed {
+    yilgashe_queue_remove(queue, player)
+}
+
+pub fn queue_remove_batch(queue: Queue, ids: &[u64]) -> Batch {
+    // SAFETY: pointer and length come from one slice, which the call only reads.
+    unsafe { yilgashe_queue_remove_batch(queue, ids.as_ptr(), ids.len()) }
+}
+
+pub fn queue_waiting_time(queue: Queue, player: u64, now: u64) -> Wait {
+    yilgashe_queue_waiting_time(queue, player, now)
+}
+
+pub fn time_duration_since(later: u64, earlier: u64) -> Duration {
+    yilgashe_time_duration_since(later, earlier)
+}
+
+pub fn time_as_secs_f64(nanos: u64) -> Seconds {
+    yilgashe_time_as_secs_f64(nanos)
+}
+
+pub fn roster_check(
+    ids: &[u64],
+    ratings: &[f64],
+    deviations: &[f64],
+    parties: &[u64],
+    roles: &[u32],
+    regions: &[u8],
+) -> u8 {
+    // SAFETY: each pointer and length come from one slice, which the call only reads.
+    unsafe {
+        yilgashe_roster_check(
+            ids.as_ptr(),
+            ids.len(),
+            ratings.as_ptr(),
+            ratings.len(),
+            deviations.as_ptr(),
+            deviations.len(),
+            parties.as_ptr(),
+            parties.len(),
+            roles.as_ptr(),
+            roles.len(),
+            regions.as_ptr(),
+            regions.len(),
+        )
+    }
+}
