@@ -6,3 +6,4 @@ pub mod Sheets
 pub mod Sign
 pub mod Order
 pub mod Highest
+pub mod Sorting

@@ -129,8 +129,12 @@ module _ {A : Type 0} (p : A → Bool) where
   module _ (es : List A) (n : ℕ) (out : List A) (k i : ℕ) (d : A) (fits : n ≤ length es) (inv : take k out ++ keep p (drop i (take n es)) ≡ keep p (take n es)) where
     pub keep-on-of : k < length out → i < n → p (getD es i d) ≡ true → take (k + 1) (set out k (getD es i d)) ++ keep p (drop (i + 1) (take n es)) ≡ keep p (take n es)
     keep-on-of room h e =
-        rw (push out k (getD es i d) room, append-snoc (take k out) (getD es i d) (keep p (drop (i + 1) (take n es))),
-          ← keep-here (getD es i d) (drop (i + 1) (take n es)) e, ← peel es n i d fits h)
+        rw (
+          push out k (getD es i d) room,
+          append-snoc (take k out) (getD es i d) (keep p (drop (i + 1) (take n es))),
+          ← keep-here (getD es i d) (drop (i + 1) (take n es)) e,
+          ← peel es n i d fits h,
+        )
         inv
 
     pub keep-skip-of : i < n → p (getD es i d) ≡ false → take k out ++ keep p (drop (i + 1) (take n es)) ≡ keep p (take n es)
