@@ -1,11 +1,15 @@
 -- The first n elements of an array, walked from the front, and grown at the end.
-use Prim.Native.Nat.{ℕ, suc, _+_, _≤_, _<_}
+use Prim.Native.Nat.{ℕ, suc, _+_, _≤_, _<_, min}
 use mathlib.Core.Path.{_≡_, refl, sym, _∙_}
 use mathlib.Core.List.{List, [], _∷_, _++_, map}
 use native.Mathlib.Numerals.{add-one}
 use native.Mathlib.Omega.{arith}
 use lib.ListN.{length, take, drop, getD, set, length-map}
-use lib.Seq.{drop-cons, getD-take, length-take-le, drop-length, take-suc-set}
+use native.Mathlib.Nat.{min-eq-left, min-eq-right}
+use borrow.Author.Tests.{leb-true, leb-false}
+use lib.Dec.{leb}
+use lib.Seq.{drop-cons, getD-take, length-take-le, drop-length, take-suc-set, take-all}
+use Rattle.base.proofs.Cases.{cases}
 
 module _ {A : Type 0} where
   -- what is left at i begins with the element at i
@@ -23,6 +27,15 @@ module _ {A : Type 0} where
   -- an element stored behind the first k is one more of them
   pub push : (es : List A) (k : ℕ) (a : A) → k < length es → take (k + 1) (set es k a) ≡ take k es ++ (a ∷ [])
   push es k a h = rw (add-one k, take-suc-set es k a h)
+
+-- an array of m holds no more than m, whatever length is stated
+pub take-held : {A : Type 0} (es : List A) (n m : ℕ) → length es ≡ m → take (min n m) es ≡ take n es
+take-held es n m l =
+    cases (leb n m) (λ t. rw (min-eq-left (leb-true n m t)))
+    (λ f.
+      let h : m < n = leb-false n m f in
+      let k : m ≤ n = omega arith in
+      rw (min-eq-right k, take-all m es (omega arith), take-all n es (omega arith)))
 
 -- the length of an array of structs, of which the logic tells the length of a map: `search (unmapped, needs)`
 pub unmapped : {X Y : Type 0} (f : X → Y) (l : List X) (n : ℕ) → length (map f l) ≡ n → length l ≡ n

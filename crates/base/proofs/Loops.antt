@@ -24,14 +24,15 @@ module _ {A B : Type 0} (p : A → Bool) (f : A → B) (b : B) where
   unfolding seek
   seek-past x xs h = rw h
 
-  module _ (xs : List A) (i : ℕ) (d : A) (inv : seek p f b xs ≡ seek p f b (drop i xs)) where
-    pub seek-hit : i < length xs → p (getD xs i d) ≡ true → f (getD xs i d) ≡ seek p f b xs
+  -- v is what the whole search gives, and what is left of it still gives
+  module _ {v : B} (xs : List A) (i : ℕ) (d : A) (inv : v ≡ seek p f b (drop i xs)) where
+    pub seek-hit : i < length xs → p (getD xs i d) ≡ true → f (getD xs i d) ≡ v
     seek-hit h e = sym (inv ∙ rw (drop-cons xs i d h) (seek-here (getD xs i d) (drop (suc i) xs) e))
 
-    pub seek-on : i < length xs → p (getD xs i d) ≡ false → seek p f b xs ≡ seek p f b (drop (i + 1) xs)
+    pub seek-on : i < length xs → p (getD xs i d) ≡ false → v ≡ seek p f b (drop (i + 1) xs)
     seek-on h e = inv ∙ rw (drop-cons xs i d h, add-one i) (seek-past (getD xs i d) (drop (suc i) xs) e)
 
-  pub seek-end : (xs : List A) (i : ℕ) → seek p f b xs ≡ seek p f b (drop i xs) → length xs ≤ i → b ≡ seek p f b xs
+  pub seek-end : {v : B} (xs : List A) (i : ℕ) → v ≡ seek p f b (drop i xs) → length xs ≤ i → b ≡ v
   unfolding seek
   seek-end xs i inv h = sym (inv ∙ rw (drop-of-length-le xs h))
 

@@ -45,3 +45,35 @@ impl Debug for Roster {
         Ok(())
     }
 }
+
+/// The columns that scores read; no deviations where a call takes none.
+#[derive(Clone, Default)]
+pub struct Columns {
+    pub ids: Vec<u64>,
+    pub ratings: Vec<f64>,
+    pub deviations: Option<Vec<f64>>,
+}
+
+impl Columns {
+    /// The length of each column that is taken.
+    pub fn lengths(&self) -> Vec<usize> {
+        let taken = [self.ids.len(), self.ratings.len()];
+        let deviations = self.deviations.iter().map(Vec::len);
+        taken.into_iter().chain(deviations).collect()
+    }
+}
+
+/// A column a line, with its length.
+impl Debug for Columns {
+    fn fmt(&self, f: &mut Formatter<'_>) -> Result {
+        write!(f, "columns")?;
+        write!(f, "\n      {:3} ids: {:?}", self.ids.len(), self.ids)?;
+        let ratings = &self.ratings;
+        write!(f, "\n      {:3} ratings: {ratings:?}", ratings.len())?;
+        if let Some(deviations) = &self.deviations {
+            let length = deviations.len();
+            write!(f, "\n      {length:3} deviations: {deviations:?}")?;
+        }
+        Ok(())
+    }
+}

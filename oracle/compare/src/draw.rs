@@ -2,6 +2,10 @@
 //!
 //! Each irregularity is rare, so that most cases reach the Rust.
 
+mod scores;
+
+pub use scores::*;
+
 use crate::data::Roster;
 use crate::model::{CLOCK_LIMIT, NO_RECORD, QUEUE_LIMIT, ROSTER_LIMIT};
 use crate::rng::Rng;

@@ -35,6 +35,8 @@ pub trait Function {
 pub trait Stored: Function {
     /// The first word of its lines.
     const CODE: u64;
+    /// False where nothing is ever refused: its lines hold no refusal.
+    const REFUSES: bool = true;
 
     fn write_case(case: &Self::Case, words: &mut Words);
     fn write_answer(case: &Self::Case, answer: &Self::Answer, words: &mut Words);
@@ -106,7 +108,9 @@ fn store<F: Stored>(rng: &mut Rng) -> Option<String> {
     let mut words = Words::default();
     words.number(F::CODE);
     F::write_case(&case, &mut words);
-    words.number(u64::from(number(source)));
+    if F::REFUSES {
+        words.number(u64::from(number(source)));
+    }
     F::write_answer(&case, &answer, &mut words);
     Some(words.line())
 }

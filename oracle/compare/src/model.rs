@@ -1,12 +1,18 @@
 //! Which refusal each call must get, written from document 01 and its readings alone. 0 is none.
 
-use crate::data::Roster;
-use yilgashe_sys::{Queue, QueueEntry};
+use crate::data::{Columns, Roster};
+use yilgashe_sys::{ProposedMatch, Queue, QueueEntry, SoftObjectives};
 
 /// A queue holds this many entries.
 pub const QUEUE_LIMIT: usize = 64;
 /// A roster column has this many rows.
 pub const ROSTER_LIMIT: usize = 128;
+/// A team seats this many players.
+pub const TEAM_LIMIT: usize = 8;
+/// A list of soft objectives holds this many.
+pub const OBJECTIVE_LIMIT: usize = 8;
+/// The last kind of soft objective: skill, latency, wait. A code beyond it is over limit.
+pub const LAST_KIND: u8 = 2;
 /// The last time that passes: 2^53 ns.
 pub const CLOCK_LIMIT: u64 = 9_007_199_254_740_992;
 /// The code of a player without a record.
@@ -63,6 +69,47 @@ pub fn roster(roster: &Roster) -> u8 {
     ])
 }
 
+pub fn match_quality(proposed: &ProposedMatch, columns: &Columns) -> u8 {
+    let over = wide(proposed) || long(columns);
+    first(&[(over, OVER_LIMIT), (bad(columns), BAD_ROSTER)])
+}
+
+pub fn match_score(proposed: &ProposedMatch, queue: &Queue, columns: &Columns, clock: u64) -> u8 {
+    first(&[
+        (wide(proposed) || over(queue) || long(columns), OVER_LIMIT),
+        (bad(columns), BAD_ROSTER),
+        (late(clock) || joined_late(queue), CLOCK),
+    ])
+}
+
+pub fn soft_value(kind: u8, proposed: &ProposedMatch, columns: &Columns) -> u8 {
+    let over = kind > LAST_KIND || wide(proposed) || long(columns);
+    first(&[(over, OVER_LIMIT), (bad(columns), BAD_ROSTER)])
+}
+
+pub fn soft_score(objectives: &SoftObjectives, proposed: &ProposedMatch, columns: &Columns) -> u8 {
+    let unknown = objectives.listed().any(|(kind, _)| kind > LAST_KIND);
+    let listed_over = objectives.len > OBJECTIVE_LIMIT || unknown;
+    let over = listed_over || wide(proposed) || long(columns);
+    first(&[(over, OVER_LIMIT), (bad(columns), BAD_ROSTER)])
+}
+
+fn wide(proposed: &ProposedMatch) -> bool {
+    proposed.a.len > TEAM_LIMIT || proposed.b.len > TEAM_LIMIT
+}
+
+fn long(columns: &Columns) -> bool {
+    let mut lengths = columns.lengths().into_iter();
+    lengths.any(|length| length > ROSTER_LIMIT)
+}
+
+/// Columns of unequal length or a player in two rows.
+fn bad(columns: &Columns) -> bool {
+    let rows = columns.ids.len();
+    let mut lengths = columns.lengths().into_iter();
+    lengths.any(|length| length != rows) || doubled(&columns.ids)
+}
+
 pub fn over(queue: &Queue) -> bool {
     queue.len > QUEUE_LIMIT
 }
@@ -84,6 +131,7 @@ pub fn doubled(ids: &[u64]) -> bool {
 #[cfg(test)]
 mod tests {
     use super::*;
+    use yilgashe_sys::Team;
 
     fn entry(player: u64, joined: u64) -> QueueEntry {
         QueueEntry {
@@ -195,5 +243,85 @@ mod tests {
         long.ids[4] = 0;
         long.regions[4] = 5;
         assert_eq!(roster(&long), 1);
+    }
+
+    fn teams(a: usize, b: usize) -> ProposedMatch {
+        let team = |len| Team {
+            players: [1; 8],
+            len,
+        };
+        ProposedMatch {
+            a: team(a),
+            b: team(b),
+        }
+    }
+
+    fn columns(n: usize, deviations: Option<usize>) -> Columns {
+        Columns {
+            ids: (0..n as u64).collect(),
+            ratings: vec![f64::NAN; n],
+            deviations: deviations.map(|n| vec![0.0; n]),
+        }
+    }
+
+    #[test]
+    fn quality_at_the_limits() {
+        assert_eq!(match_quality(&teams(8, 8), &columns(128, None)), 0);
+        assert_eq!(match_quality(&teams(0, 0), &columns(0, None)), 0);
+        assert_eq!(match_quality(&teams(9, 0), &columns(0, None)), 1);
+        assert_eq!(match_quality(&teams(0, usize::MAX), &columns(0, None)), 1);
+        assert_eq!(match_quality(&teams(1, 1), &columns(129, None)), 1);
+    }
+
+    #[test]
+    fn quality_checks_columns_after_limits() {
+        let mut unequal = columns(5, None);
+        unequal.ratings.pop();
+        assert_eq!(match_quality(&teams(1, 1), &unequal), 2);
+        assert_eq!(match_quality(&teams(1, 9), &unequal), 1);
+        let mut long = columns(5, None);
+        long.ratings.resize(129, 0.0);
+        assert_eq!(match_quality(&teams(1, 1), &long), 1);
+        let mut doubled = columns(5, None);
+        doubled.ids[0] = 4;
+        assert_eq!(match_quality(&teams(1, 1), &doubled), 2);
+    }
+
+    #[test]
+    fn score_checks_limits_then_columns_then_times() {
+        let (late, good) = (CLOCK_LIMIT + 1, columns(5, Some(5)));
+        let score = |b, queue: &Queue, columns: &Columns, clock| {
+            match_score(&teams(8, b), queue, columns, clock)
+        };
+        assert_eq!(score(8, &queue(64, CLOCK_LIMIT), &good, CLOCK_LIMIT), 0);
+        assert_eq!(score(8, &queue(65, 0), &good, 0), 1);
+        assert_eq!(score(9, &queue(64, 0), &good, 0), 1);
+        assert_eq!(score(8, &queue(1, late), &good, 0), 4);
+        assert_eq!(score(8, &queue(0, late), &good, 0), 0);
+        assert_eq!(score(8, &queue(0, 0), &good, late), 4);
+        let unequal = columns(5, Some(4));
+        assert_eq!(score(8, &queue(1, late), &unequal, late), 2);
+        assert_eq!(score(9, &queue(1, late), &unequal, late), 1);
+        assert_eq!(score(8, &queue(1, 0), &columns(5, Some(129)), 0), 1);
+    }
+
+    #[test]
+    fn soft_objectives_check_listed_kinds_first() {
+        let (teams, good) = (teams(1, 1), columns(5, None));
+        let mut bad = columns(5, None);
+        bad.ratings.clear();
+        for (kind, with_good, with_bad) in [(0, 0, 2), (2, 0, 2), (3, 1, 1), (255, 1, 1)] {
+            assert_eq!(soft_value(kind, &teams, &good), with_good);
+            assert_eq!(soft_value(kind, &teams, &bad), with_bad);
+        }
+        let list = |len| SoftObjectives {
+            kinds: [0, 1, 2, 3, 0, 0, 0, 0],
+            weights: [1.0; 8],
+            len,
+        };
+        assert_eq!(soft_score(&list(3), &teams, &good), 0);
+        assert_eq!(soft_score(&list(3), &teams, &bad), 2);
+        assert_eq!(soft_score(&list(4), &teams, &bad), 1);
+        assert_eq!(soft_score(&list(9), &teams, &good), 1);
     }
 }

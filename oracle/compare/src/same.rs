@@ -1,6 +1,6 @@
 //! When two answers are the same: floats bit for bit, save that all NaNs are equal and both zeros are equal.
 
-use yilgashe_sys::{Queue, QueueEntry};
+use yilgashe_sys::{MatchObjectiveVector, Queue, QueueEntry};
 
 pub trait Same {
     fn same(&self, other: &Self) -> bool;
@@ -71,6 +71,12 @@ impl Same for Queue {
     }
 }
 
+impl Same for MatchObjectiveVector {
+    fn same(&self, other: &Self) -> bool {
+        self.coordinates().same(&other.coordinates())
+    }
+}
+
 #[cfg(test)]
 mod tests {
     use super::*;
@@ -138,5 +144,16 @@ mod tests {
         other = queue;
         other.len = 66;
         assert!(!queue.same(&other));
+    }
+
+    #[test]
+    fn vectors_differ_in_each_coordinate() {
+        let vector = MatchObjectiveVector::of([0.0; 6]);
+        assert!(vector.same(&MatchObjectiveVector::of([-0.0; 6])));
+        for place in 0..6 {
+            let mut coordinates = [0.0; 6];
+            coordinates[place] = 1.0;
+            assert!(!vector.same(&MatchObjectiveVector::of(coordinates)));
+        }
     }
 }

@@ -1,13 +1,17 @@
 //! From the library's plain numbers to the Rust's types, and back.
 
-use crate::data::Roster;
+use crate::data::{Columns, Roster};
+use crate::model::NO_RECORD;
 use matchlab_core::player::{
     GeoLocation, PlayerId, PlayerObservation, PlayerReality, Region, SkillVector, VisibleRank,
 };
 use matchlab_core::time::SimTime;
 use matchlab_core::world::World;
 use matchlab_matchmaking::queue as matchlab;
-use yilgashe_sys::{Queue, QueueEntry};
+use matchlab_matchmaking::{matchmaker, objective};
+use yilgashe_sys::{
+    MatchObjective, MatchObjectiveVector, ObjectiveWeights, ProposedMatch, Queue, QueueEntry,
+};
 
 /// Fields that the library leaves out get a constant: nothing compared reads them.
 pub fn to_entry(entry: &QueueEntry) -> matchlab::QueueEntry {
@@ -63,6 +67,93 @@ pub fn to_world(roster: &Roster, now: u64) -> World {
             .filter_map(|row| Some((PlayerId(roster.ids[row]), reality(roster, row)?)))
             .collect(),
         time: SimTime(now),
+    }
+}
+
+/// The Rust's `World` for columns of equal length; those that are not taken get constants.
+pub fn to_rated_world(columns: &Columns, now: u64) -> World {
+    let rows = columns.ids.len();
+    let none = || vec![0.0; rows];
+    let roster = Roster {
+        ids: columns.ids.clone(),
+        ratings: columns.ratings.clone(),
+        deviations: columns.deviations.clone().unwrap_or_else(none),
+        parties: vec![0; rows],
+        roles: vec![0; rows],
+        regions: vec![NO_RECORD; rows],
+    };
+    to_world(&roster, now)
+}
+
+/// The Rust's quality field is not read by what is compared.
+pub fn to_proposed(proposed: &ProposedMatch) -> matchmaker::ProposedMatch {
+    matchmaker::ProposedMatch {
+        team_a: to_players(proposed.a.seated()),
+        team_b: to_players(proposed.b.seated()),
+        quality_score: 0.0,
+    }
+}
+
+pub fn to_objective(weights: &MatchObjective) -> objective::MatchObjective {
+    objective::MatchObjective {
+        weight_quality: weights.quality,
+        weight_queue_time: weights.wait,
+        weight_ping: weights.ping,
+        weight_rating_uncertainty: weights.uncertainty,
+    }
+}
+
+/// Kinds over 2 are refused and never come here.
+pub fn to_soft_objective(kind: u8) -> Box<dyn objective::SoftObjective> {
+    match kind {
+        0 => Box::new(objective::SkillBalanceObjective),
+        1 => Box::new(objective::LatencyObjective),
+        2 => Box::new(objective::WaitTimeObjective),
+        _ => unreachable!("a soft objective of kind {kind}"),
+    }
+}
+
+pub fn to_vector(vector: &MatchObjectiveVector) -> objective::MatchObjectiveVector {
+    objective::MatchObjectiveVector {
+        skill_quality: vector.skill,
+        role_quality: vector.role,
+        latency_quality: vector.latency,
+        party_quality: vector.party,
+        wait_cost: vector.wait,
+        utilization: vector.utilization,
+    }
+}
+
+pub fn from_vector(vector: &objective::MatchObjectiveVector) -> MatchObjectiveVector {
+    MatchObjectiveVector {
+        skill: vector.skill_quality,
+        role: vector.role_quality,
+        latency: vector.latency_quality,
+        party: vector.party_quality,
+        wait: vector.wait_cost,
+        utilization: vector.utilization,
+    }
+}
+
+pub fn to_weights(weights: &ObjectiveWeights) -> objective::ObjectiveWeights {
+    objective::ObjectiveWeights {
+        skill_quality: weights.skill,
+        role_quality: weights.role,
+        latency_quality: weights.latency,
+        party_quality: weights.party,
+        wait_cost: weights.wait,
+        utilization: weights.utilization,
+    }
+}
+
+pub fn from_weights(weights: &objective::ObjectiveWeights) -> ObjectiveWeights {
+    ObjectiveWeights {
+        skill: weights.skill_quality,
+        role: weights.role_quality,
+        latency: weights.latency_quality,
+        party: weights.party_quality,
+        wait: weights.wait_cost,
+        utilization: weights.utilization,
     }
 }
 

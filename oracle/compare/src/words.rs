@@ -1,7 +1,8 @@
 //! The words of stored answers: numbers in hex, one space between.
 
-use crate::model::QUEUE_LIMIT;
-use yilgashe_sys::{Queue, QueueEntry};
+use crate::data::Columns;
+use crate::model::{QUEUE_LIMIT, ROSTER_LIMIT, TEAM_LIMIT};
+use yilgashe_sys::{MatchObjectiveVector, ProposedMatch, Queue, QueueEntry, Team};
 
 /// A line holds at most this many.
 pub const LINE_LIMIT: usize = 1000;
@@ -21,6 +22,12 @@ impl Words {
     /// A float as its bits.
     pub fn float(&mut self, float: f64) {
         self.number(float.to_bits());
+    }
+
+    /// A computed float: its bits, but one pattern for every NaN, whose bits are left to the compiler.
+    pub fn value(&mut self, value: f64) {
+        let nan = f64::from_bits(0x7ff8_0000_0000_0000);
+        self.float(if value.is_nan() { nan } else { value });
     }
 
     /// How many, then each.
@@ -50,6 +57,40 @@ impl Words {
         if brought.len <= QUEUE_LIMIT {
             self.queue(after);
         }
+    }
+
+    /// How many, then each; a team over limit is its `len` alone.
+    fn team(&mut self, team: &Team) {
+        self.number(team.len as u64);
+        if team.len <= TEAM_LIMIT {
+            self.0.extend(team.seated());
+        }
+    }
+
+    pub fn proposed(&mut self, proposed: &ProposedMatch) {
+        self.team(&proposed.a);
+        self.team(&proposed.b);
+    }
+
+    /// How many, then each; a column over limit is its length alone.
+    fn column(&mut self, column: impl ExactSizeIterator<Item = u64>) {
+        if column.len() <= ROSTER_LIMIT {
+            self.list(column);
+        } else {
+            self.number(column.len() as u64);
+        }
+    }
+
+    pub fn columns(&mut self, columns: &Columns) {
+        self.column(columns.ids.iter().copied());
+        for floats in [&columns.ratings].into_iter().chain(&columns.deviations) {
+            self.column(floats.iter().map(|float| float.to_bits()));
+        }
+    }
+
+    pub fn vector(&mut self, vector: &MatchObjectiveVector) {
+        let coordinates = vector.coordinates();
+        coordinates.iter().for_each(|&float| self.float(float));
     }
 
     pub fn line(&self) -> String {

@@ -2,7 +2,12 @@
 //!
 //! A refusal is 0 for none, else the number of document 01.
 
+#[cfg(feature = "scores")]
+mod scores;
 mod show;
+
+#[cfg(feature = "scores")]
+pub use scores::*;
 
 /// One waiting player; party 0 and role 0 mean none.
 #[repr(C)]
@@ -73,6 +78,62 @@ pub struct Seconds {
     pub refusal: u8,
 }
 
+/// The first `len` players are seated; places past `len` mean nothing.
+#[repr(C)]
+#[derive(Clone, Copy)]
+pub struct Team {
+    pub players: [u64; 8],
+    pub len: usize,
+}
+
+#[repr(C)]
+#[derive(Clone, Copy)]
+pub struct ProposedMatch {
+    pub a: Team,
+    pub b: Team,
+}
+
+/// The weights of a match's score.
+#[repr(C)]
+#[derive(Clone, Copy, Debug)]
+pub struct MatchObjective {
+    pub quality: f64,
+    pub wait: f64,
+    pub ping: f64,
+    pub uncertainty: f64,
+}
+
+/// `value` is 0.0 where refused.
+#[repr(C)]
+#[derive(Clone, Copy, Debug)]
+pub struct Scored {
+    pub value: f64,
+    pub refusal: u8,
+}
+
+/// The first `len` kinds and weights are listed. Kinds: 0 skill, 1 latency, 2 wait.
+#[repr(C)]
+#[derive(Clone, Copy)]
+pub struct SoftObjectives {
+    pub kinds: [u8; 8],
+    pub weights: [f64; 8],
+    pub len: usize,
+}
+
+#[repr(C)]
+#[derive(Clone, Copy, Debug)]
+pub struct MatchObjectiveVector {
+    pub skill: f64,
+    pub role: f64,
+    pub latency: f64,
+    pub party: f64,
+    pub wait: f64,
+    pub utilization: f64,
+}
+
+/// A weight for each coordinate.
+pub type ObjectiveWeights = MatchObjectiveVector;
+
 const _: () = {
     assert!(size_of::<QueueEntry>() == 40);
     assert!(size_of::<Queue>() == 2568);
@@ -82,6 +143,12 @@ const _: () = {
     assert!(size_of::<Wait>() == 16);
     assert!(size_of::<Duration>() == 16);
     assert!(size_of::<Seconds>() == 16);
+    assert!(size_of::<Team>() == 72);
+    assert!(size_of::<ProposedMatch>() == 144);
+    assert!(size_of::<MatchObjective>() == 32);
+    assert!(size_of::<Scored>() == 16);
+    assert!(size_of::<SoftObjectives>() == 80);
+    assert!(size_of::<MatchObjectiveVector>() == 48);
 };
 
 impl Queue {
@@ -98,6 +165,46 @@ impl Queue {
     /// The entries that wait; all 64 where `len` is over 64.
     pub fn waiting(&self) -> &[QueueEntry] {
         &self.entries[..self.len.min(64)]
+    }
+}
+
+impl Team {
+    /// The players who are seated; all 8 where `len` is over 8.
+    pub fn seated(&self) -> &[u64] {
+        &self.players[..self.len.min(8)]
+    }
+}
+
+impl SoftObjectives {
+    /// The kinds and weights that are listed; all 8 where `len` is over 8.
+    pub fn listed(&self) -> impl ExactSizeIterator<Item = (u8, f64)> {
+        (0..self.len.min(8)).map(|place| (self.kinds[place], self.weights[place]))
+    }
+}
+
+impl MatchObjectiveVector {
+    /// Skill, role, latency, party, wait, utilization.
+    pub fn of([skill, role, latency, party, wait, utilization]: [f64; 6]) -> Self {
+        MatchObjectiveVector {
+            skill,
+            role,
+            latency,
+            party,
+            wait,
+            utilization,
+        }
+    }
+
+    /// In the order of `of`.
+    pub fn coordinates(&self) -> [f64; 6] {
+        [
+            self.skill,
+            self.role,
+            self.latency,
+            self.party,
+            self.wait,
+            self.utilization,
+        ]
     }
 }
 

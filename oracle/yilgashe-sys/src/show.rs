@@ -1,6 +1,6 @@
-//! How entries and queues print: an entry a line, the bits of a rating beside it.
+//! How queues, matches and lists of objectives print: an entry, team or list a line, the bits of a rating beside it.
 
-use crate::{Queue, QueueEntry};
+use crate::{ProposedMatch, Queue, QueueEntry, SoftObjectives, Team};
 use std::fmt::{Debug, Formatter, Result};
 
 impl Debug for QueueEntry {
@@ -25,5 +25,24 @@ impl Debug for Queue {
             write!(f, "\n      {place:2}: {entry:?}")?;
         }
         Ok(())
+    }
+}
+
+impl Debug for Team {
+    fn fmt(&self, f: &mut Formatter<'_>) -> Result {
+        write!(f, "team of len {}: {:?}", self.len, self.seated())
+    }
+}
+
+impl Debug for ProposedMatch {
+    fn fmt(&self, f: &mut Formatter<'_>) -> Result {
+        write!(f, "match\n      A, {:?}\n      B, {:?}", self.a, self.b)
+    }
+}
+
+impl Debug for SoftObjectives {
+    fn fmt(&self, f: &mut Formatter<'_>) -> Result {
+        let listed: Vec<(u8, f64)> = self.listed().collect();
+        write!(f, "objectives of len {}: {listed:?}", self.len)
     }
 }

@@ -19,6 +19,17 @@ const LAYOUT: &str = "\
 # 6 as_secs_f64: time -> refusal, seconds
 # 7 roster check: six times n and n words (ids ratings deviations parties roles regions) -> refusal";
 
+#[cfg(feature = "scores")]
+const SCORES: &str = "\
+# team = n and n players, or 9 alone for a len field of 9; column = n and n words, or 129 alone for 129 rows.
+# A value that is NaN is written 7ff8000000000000.
+# 8 match_quality: team a, team b, columns ids and ratings -> refusal, value
+# 9 match_score: weights (quality wait ping uncertainty), team a, team b, queue, columns ids, ratings and deviations, clock -> refusal, value
+# 10 soft_score: k and k times kind weight, team a, team b, columns ids and ratings -> refusal, value
+# vector = skill role latency party wait utilization. Vectors refuse nothing: their lines hold no refusal.
+# 11 scalarize: vector, weights as a vector -> value
+# 12 dominates: vector, other vector -> 0 or 1";
+
 fn main() {
     let options = options::parse(env::args().skip(1), 200, &[]).unwrap_or_else(|error| {
         eprintln!("{error}\nusage: vectors [--cases N] [--seed S]");
@@ -38,6 +49,8 @@ fn write(cases: u64, seed: u64) -> io::Result<()> {
         "# Answers of the unchanged Rust (matchlab commit fe3a82e733); refusals by document 01."
     )?;
     writeln!(out, "{LAYOUT}")?;
+    #[cfg(feature = "scores")]
+    writeln!(out, "{SCORES}")?;
     for function in FAMILIES.iter().flat_map(|(_, functions)| *functions) {
         let Some(store) = function.store else {
             continue;

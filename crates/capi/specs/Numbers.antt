@@ -1,0 +1,24 @@
+-- An outcome in numbers, as it crosses to C: the refusal, 0 where there is none, and the value, a given one where it is refused.
+use Prim.Native.Nat.{ℕ}
+use mathlib.Core.Bool.{Bool, true, false}
+use mathlib.Core.Option.{Option, none, some}
+use Rattle.base.specs.Refusals.{Outcome, refused, gives}
+
+module _ {A : Type 0} where
+  abbrev pub refusalOf : Outcome A → ℕ
+  refusalOf (refused n) = n
+  refusalOf (gives a) = 0
+
+  abbrev pub valueOr : A → Outcome A → A
+  valueOr d (refused n) = d
+  valueOr d (gives a) = a
+
+  abbrev pub foundIn : Outcome (Option A) → Bool
+  foundIn (refused n) = false
+  foundIn (gives none) = false
+  foundIn (gives (some a)) = true
+
+  abbrev pub foundOr : A → Outcome (Option A) → A
+  foundOr d (refused n) = d
+  foundOr d (gives none) = d
+  foundOr d (gives (some a)) = a

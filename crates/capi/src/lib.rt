@@ -1,0 +1,8 @@
+// The library that C and Rust programs link: numbers, slices and #[repr(C)] structs by value. Every export is thin and promises
+// what the crate below it promises, in numbers: a refusal is document 01's number, 0 where there is none.
+
+// The queue and times.
+pub mod queues;
+
+// The roster's checks.
+pub mod rosters;

@@ -1,0 +1,52 @@
+-- The refusals by their tests; an entry stored behind the others is appended.
+use borrow.Author.Needs.{needs}
+use native.Mathlib.Omega.{arith}
+use mathlib.Core.Path.{sym, _∙_}
+use borrow.Author.Tests.{le-leb, lt-leb}
+use Rattle.base.proofs.Arrays.{unmapped}
+use Rattle.queue.proofs.Laws.{appended}
+use Rattle.queue.proofs.Queue.enqueue.Statement.{statement}
+use Rattle.queue.proofs.Queue.enqueue.Tie as tie
+
+returns : tie.Need-returns
+returns c = rw (le-leb _ _ (c .if1 .taken))
+
+is-late-requires : tie.Need-is-late-requires
+is-late-requires c κs = search needs
+
+returns-2 : tie.Need-returns-2
+returns-2 c = rw (lt-leb _ _ (c .before .before .before .if1 .left), sym (c .before .is-late .ensures) ∙ c .if2 .taken)
+
+any-late-requires : tie.Need-any-late-requires
+any-late-requires c κs = search needs
+
+returns-3 : tie.Need-returns-3
+returns-3 c = rw (lt-leb _ _ (c .before .before .before .before .before .if1 .left), sym (c .before .before .before .is-late .ensures) ∙ c .before .before .if2 .left, sym (c .before .any-late .ensures) ∙ c .if3 .taken)
+
+mul-entry : tie.Need-mul-entry
+mul-entry c = search needs
+
+element-set-from-entry : tie.Need-element-set-from-entry
+element-set-from-entry c = search needs
+
+add-longer : tie.Need-add-longer
+add-longer c = search needs
+
+returns-4 : tie.Need-returns-4
+returns-4 c =
+    let q = c .before .before .before .before .before .before .args .self in
+    appended (q .entries) (q .len) _ (search (unmapped, needs)) (omega arith) (sym (c .before .before .before .is-late .ensures) ∙ c .before .before .if2 .left) (sym (c .before .any-late .ensures) ∙ c .if3 .left)
+
+pub enqueue-spec : {M : Type 1} → statement M
+enqueue-spec =
+    tie.close
+    (tie.spec
+    returns
+    is-late-requires
+    returns-2
+    any-late-requires
+    returns-3
+    mul-entry
+    element-set-from-entry
+    add-longer
+    returns-4)

@@ -1,0 +1,285 @@
+// The roster, which stands for the Rust's World: columns that the caller lends.
+ghost use mathlib.Core.Path.{_≡_};
+ghost use mathlib.Core.Bool.{_&&_};
+ghost use mathlib.Core.List.{[], _∷_};
+ghost use Prim.Native.Nat.{_≤_};
+ghost use lib.Dec.{eqb};
+ghost use lib.ListN.{length, take, drop};
+ghost use Rattle.base.specs.Refusals.{checkedOf};
+ghost use Rattle.base.specs.Lists.{any, every, member, distinct};
+ghost use Rattle.roster.specs.Ascending.{ascends};
+ghost use Rattle.roster.specs.Roster.{ofRatings, ofDeviations, ofParties, ofRoles, ofRegions, ofRules, partyOf, roleOf, regionOf, rulesCheck, tooLong, isRegion, columnsCheck, ratingsCheck, deviationsCheck, rosterCheck, rowOf, observe, observedOf};
+use base::Checked;
+use base::Refusal;
+
+// What a column of floats says of a player.
+pub enum Observed {
+    Of(f64),
+    Nothing,
+}
+
+// ---- are the ids all different?
+
+// Is the id in a row from `from` on?
+fn stands_from(ids: &[u64], from: usize, id: u64) -> bool
+    requires { ⌜ from ≤ length (now ids) ⌝ }
+    ensures { λ r. ⌜ r ≡ member id (drop from (now (ids .entry))) ⌝ }
+{
+    let mut i = from;
+    while i < ids.len() {
+        if ids[i] == id {
+            return true;
+        }
+        i += 1;
+    }
+    false
+}
+
+// Each id against all later ones.
+fn differ_pairwise(ids: &[u64]) -> bool
+    ensures { λ r. ⌜ r ≡ distinct (now (ids .entry)) ⌝ }
+{
+    let mut i: usize = 0;
+    while i < ids.len() {
+        if stands_from(ids, i + 1, ids[i]) {
+            return false;
+        }
+        i += 1;
+    }
+    true
+}
+
+// In one pass: is each id above the one before?
+fn ascend(ids: &[u64]) -> bool
+    ensures { λ r. ⌜ r ≡ ascends (now (ids .entry)) ⌝ }
+{
+    if ids.len() == 0 {
+        return true;
+    }
+    let mut last = ids[0];
+    let mut i: usize = 1;
+    while i < ids.len() {
+        let id = ids[i];
+        if id <= last {
+            return false;
+        }
+        last = id;
+        i += 1;
+    }
+    true
+}
+
+// Ascending ids differ, and that takes one pass; others are held against each other.
+pub fn all_different(ids: &[u64]) -> bool
+    ensures { λ r. ⌜ r ≡ distinct (now (ids .entry)) ⌝ }
+{
+    if ascend(ids) {
+        return true;
+    }
+    differ_pairwise(ids)
+}
+
+// ---- refusals 1 and 2
+
+// Is a length among the first `count` over 128?
+fn any_too_long(lengths: [usize; 5], count: usize) -> bool
+    requires { ⌜ count ≤ 5 ⌝ }
+    ensures { λ r. ⌜ r ≡ any tooLong (take count lengths) ⌝ }
+{
+    let mut i: usize = 0;
+    while i < count {
+        if 128 < lengths[i] {
+            return true;
+        }
+        i += 1;
+    }
+    false
+}
+
+// Are the first `count` lengths all `rows`?
+fn all_of_length(lengths: [usize; 5], count: usize, rows: usize) -> bool
+    requires { ⌜ count ≤ 5 ⌝ }
+    ensures { λ r. ⌜ r ≡ every (λ n. eqb n rows) (take count lengths) ⌝ }
+{
+    let mut i: usize = 0;
+    while i < count {
+        if lengths[i] != rows {
+            return false;
+        }
+        i += 1;
+    }
+    true
+}
+
+// Are these all region codes?
+pub fn are_regions(codes: &[u8]) -> bool
+    ensures { λ r. ⌜ r ≡ every isRegion (now (codes .entry)) ⌝ }
+{
+    let mut i: usize = 0;
+    while i < codes.len() {
+        if 4 < codes[i] {
+            return false;
+        }
+        i += 1;
+    }
+    true
+}
+
+// The checks of the ids and of the lengths of the first `count` other columns.
+pub fn check_columns(ids: &[u64], lengths: [usize; 5], count: usize) -> Checked
+    ensures { λ r. ⌜ checkedOf r ≡ columnsCheck (now (ids .entry)) (take count lengths) [] ⌝ }
+{
+    let mut n = count;
+    if 5 < n {
+        n = 5;
+    }
+    if 128 < ids.len() {
+        return Checked::Refused(Refusal::OverLimit);
+    }
+    if any_too_long(lengths, n) {
+        return Checked::Refused(Refusal::OverLimit);
+    }
+    if !all_of_length(lengths, n, ids.len()) {
+        return Checked::Refused(Refusal::BadRoster);
+    }
+    if !all_different(ids) {
+        return Checked::Refused(Refusal::BadRoster);
+    }
+    Checked::Passed
+}
+
+// The same with a column of regions, whose length is among `lengths`.
+pub fn check_columns_with_regions(
+    ids: &[u64],
+    lengths: [usize; 5],
+    count: usize,
+    regions: &[u8],
+) -> Checked
+    ensures { λ r. ⌜ checkedOf r ≡ columnsCheck (now (ids .entry)) (take count lengths) (now (regions .entry)) ⌝ }
+{
+    let columns = check_columns(ids, lengths, count);
+    let Checked::Passed = columns else {
+        return columns;
+    };
+    if !are_regions(regions) {
+        return Checked::Refused(Refusal::BadRoster);
+    }
+    Checked::Passed
+}
+
+// A roster of ids and ratings.
+pub fn check_ratings(ids: &[u64], ratings: &[f64]) -> Checked
+    ensures { λ r. ⌜ checkedOf r ≡ ratingsCheck (ofRatings (now (ids .entry)) (now (ratings .entry))) ⌝ }
+{
+    let lengths = [ratings.len(), 0, 0, 0, 0];
+    check_columns(ids, lengths, 1)
+}
+
+// A roster of ids, ratings and deviations.
+pub fn check_deviations(ids: &[u64], ratings: &[f64], deviations: &[f64]) -> Checked
+    ensures { λ r. ⌜ checkedOf r ≡ deviationsCheck (ofDeviations (now (ids .entry)) (now (ratings .entry)) (now (deviations .entry))) ⌝ }
+{
+    let lengths = [ratings.len(), deviations.len(), 0, 0, 0];
+    check_columns(ids, lengths, 2)
+}
+
+// The columns that constraints read.
+pub fn check_rules(ids: &[u64], ratings: &[f64], parties: &[u64], roles: &[u32], regions: &[u8]) -> Checked
+    ensures { λ r. ⌜ checkedOf r ≡ rulesCheck (ofRules (now (ids .entry)) (now (ratings .entry)) (now (parties .entry)) (now (roles .entry)) (now (regions .entry))) ⌝ }
+{
+    let lengths = [ratings.len(), parties.len(), roles.len(), regions.len(), 0];
+    check_columns_with_regions(ids, lengths, 4, regions)
+}
+
+// A whole roster.
+pub fn check_roster(
+    ids: &[u64],
+    ratings: &[f64],
+    deviations: &[f64],
+    parties: &[u64],
+    roles: &[u32],
+    regions: &[u8],
+) -> Checked
+    ensures { λ r. ⌜ checkedOf r ≡ rosterCheck (record { ids = now (ids .entry); ratings = now (ratings .entry); deviations = now (deviations .entry); parties = now (parties .entry); roles = now (roles .entry); regions = now (regions .entry) }) ⌝ }
+{
+    let lengths = [
+        ratings.len(),
+        deviations.len(),
+        parties.len(),
+        roles.len(),
+        regions.len(),
+    ];
+    check_columns_with_regions(ids, lengths, 5, regions)
+}
+
+// ---- the row of a player
+
+// The player's first row, or the number of rows.
+pub fn row_of(ids: &[u64], player: u64) -> usize
+    ensures { λ r. ⌜ r ≡ rowOf player (now (ids .entry)) ⌝ }
+{
+    let mut i: usize = 0;
+    while i < ids.len() {
+        if ids[i] == player {
+            return i;
+        }
+        i += 1;
+    }
+    i
+}
+
+// What a column of floats says of the player.
+pub fn observation(ids: &[u64], column: &[f64], player: u64) -> Observed
+    ensures { λ r. ⌜ observedOf r ≡ observe (now (ids .entry)) (now (column .entry)) player ⌝ }
+{
+    let row = row_of(ids, player);
+    if ids.len() <= row {
+        return Observed::Nothing;
+    }
+    if column.len() <= row {
+        return Observed::Nothing;
+    }
+    Observed::Of(column[row])
+}
+
+// The player's party, 0 where there is none.
+pub fn party_of(ids: &[u64], parties: &[u64], player: u64) -> u64
+    ensures { λ r. ⌜ r ≡ partyOf (ofParties (now (ids .entry)) (now (parties .entry))) player ⌝ }
+{
+    let row = row_of(ids, player);
+    if ids.len() <= row {
+        return 0;
+    }
+    if parties.len() <= row {
+        return 0;
+    }
+    parties[row]
+}
+
+// The player's role, 0 where there is none.
+pub fn role_of(ids: &[u64], roles: &[u32], player: u64) -> u32
+    ensures { λ r. ⌜ r ≡ roleOf (ofRoles (now (ids .entry)) (now (roles .entry))) player ⌝ }
+{
+    let row = row_of(ids, player);
+    if ids.len() <= row {
+        return 0;
+    }
+    if roles.len() <= row {
+        return 0;
+    }
+    roles[row]
+}
+
+// The player's region, 4 where there is none.
+pub fn region_of(ids: &[u64], regions: &[u8], player: u64) -> u8
+    ensures { λ r. ⌜ r ≡ regionOf (ofRegions (now (ids .entry)) (now (regions .entry))) player ⌝ }
+{
+    let row = row_of(ids, player);
+    if ids.len() <= row {
+        return 4;
+    }
+    if regions.len() <= row {
+        return 4;
+    }
+    regions[row]
+}
