@@ -1,9 +1,9 @@
 -- The roster's laws: ascending ids are all different, what a column says of a player, and the turns of the loops.
 use Prim.Native.Nat.{ℕ, suc, _+_, _≤_, _<_}
 use mathlib.Core.Path.{_≡_, refl, sym, _∙_}
-use mathlib.Core.Bool.{Bool, true, false, not, cond, _&&_}
+use mathlib.Core.Bool.{Bool, true, false, cond, _&&_}
 use mathlib.Core.List.{List, [], _∷_}
-use mathlib.Core.Option.{Option, none, some}
+use mathlib.Core.Option.{none, some}
 use native.Mathlib.Numerals.{add-one}
 use native.Mathlib.Nat.{le-of-suc-le-suc, not-suc-le-zero}
 use native.Mathlib.Omega.{arith}
@@ -116,7 +116,7 @@ module _ (xs : List ℕ) (i : ℕ) (inv : distinct xs ≡ distinct (drop i xs)) 
 
 -- ---- each id against the one before
 
--- no ids ascend
+-- where there are no ids, they ascend
 pub ascends-none : (xs : List ℕ) → length xs ≡ 0 → true ≡ ascends xs
 unfolding ascends
 ascends-none [] e = refl

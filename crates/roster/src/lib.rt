@@ -184,7 +184,13 @@ pub fn check_deviations(ids: &[u64], ratings: &[f64], deviations: &[f64]) -> Che
 }
 
 // The columns that constraints read.
-pub fn check_rules(ids: &[u64], ratings: &[f64], parties: &[u64], roles: &[u32], regions: &[u8]) -> Checked
+pub fn check_rules(
+    ids: &[u64],
+    ratings: &[f64],
+    parties: &[u64],
+    roles: &[u32],
+    regions: &[u8],
+) -> Checked
     ensures { λ r. ⌜ checkedOf r ≡ rulesCheck (ofRules (now (ids .entry)) (now (ratings .entry)) (now (parties .entry)) (now (roles .entry)) (now (regions .entry))) ⌝ }
 {
     let lengths = [ratings.len(), parties.len(), roles.len(), regions.len(), 0];

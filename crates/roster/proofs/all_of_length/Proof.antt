@@ -1,11 +1,11 @@
 -- `roster::all_of_length` meets its contract: the rest of the lengths decides what all of them decide.
-use Prim.Native.Nat.{ℕ, _+_, _-_, _≤_, _<_}
+use Prim.Native.Nat.{_-_, _≤_}
 use mathlib.Core.Path.{_≡_, refl, ap}
 use mathlib.Core.Bool.{not}
 use native.Mathlib.Omega.{arith}
 use borrow.Author.Tests.{eq-eqb, ne-eqb}
 use lib.Dec.{eqb}
-use lib.ListN.{length, take, drop, getD}
+use lib.ListN.{take, drop, getD}
 use Rattle.base.specs.Lists.{every}
 use Rattle.base.proofs.Loops.{seek-hit-of, seek-on-of, seek-end-of}
 use borrow.Author.Needs.{needs}

@@ -1,9 +1,9 @@
 -- `roster::any_too_long` meets its contract: the rest of the lengths decides what all of them decide.
-use Prim.Native.Nat.{ℕ, _+_, _-_, _≤_, _<_}
+use Prim.Native.Nat.{_-_, _≤_}
 use mathlib.Core.Path.{_≡_, refl}
 use native.Mathlib.Omega.{arith}
 use borrow.Author.Tests.{lt-ltb, le-ltb}
-use lib.ListN.{length, take, drop, getD}
+use lib.ListN.{take, drop, getD}
 use Rattle.base.specs.Lists.{any}
 use Rattle.base.proofs.Loops.{seek-hit-of, seek-on-of, seek-end-of}
 use Rattle.roster.specs.Roster.{tooLong}

@@ -1,5 +1,5 @@
 -- `roster::are_regions` meets its contract: the rest of the codes decides what all of them decide.
-use Prim.Native.Nat.{ℕ, _+_, _-_, _≤_, _<_}
+use Prim.Native.Nat.{_-_, _≤_}
 use mathlib.Core.Path.{_≡_, refl, ap}
 use mathlib.Core.Bool.{not}
 use native.Mathlib.Omega.{arith}

@@ -1,8 +1,8 @@
 -- `roster::ascend` meets its contract: the rest ascends from the last id exactly where all ids ascend.
-use Prim.Native.Nat.{ℕ, _+_, _-_, _≤_, _<_}
-use mathlib.Core.Path.{_≡_, refl}
+use Prim.Native.Nat.{_-_, _≤_}
+use mathlib.Core.Path.{_≡_}
 use native.Mathlib.Omega.{arith}
-use lib.ListN.{length, drop, getD}
+use lib.ListN.{length, drop}
 use Rattle.roster.specs.Ascending.{ascendsFrom, ascends}
 use Rattle.roster.proofs.Laws.{ascends-none, ascends-start, ascends-not, ascends-on, ascends-end}
 use borrow.Author.Needs.{needs}

@@ -4,7 +4,7 @@ use mathlib.Core.Path.{_≡_, sym, ap, _∙_}
 use mathlib.Core.Logic.{⊎-elim}
 use native.Mathlib.Omega.{arith}
 use borrow.Author.Tests.{not-true, not-false}
-use lib.ListN.{length, take}
+use lib.ListN.{take}
 use Rattle.roster.proofs.Laws.{five-at-most, long-ids, long-column, uneven, twice, passes}
 use borrow.Author.Needs.{needs}
 use Rattle.roster.proofs.check_columns.Statement.{statement}

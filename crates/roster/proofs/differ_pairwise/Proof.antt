@@ -1,8 +1,8 @@
 -- `roster::differ_pairwise` meets its contract: the rest of the ids decides what all of them decide.
-use Prim.Native.Nat.{ℕ, _+_, _-_, _≤_, _<_}
+use Prim.Native.Nat.{_-_, _≤_}
 use mathlib.Core.Path.{_≡_, refl, sym, _∙_}
 use native.Mathlib.Omega.{arith}
-use lib.ListN.{length, drop, getD}
+use lib.ListN.{length, drop}
 use Rattle.base.specs.Lists.{distinct}
 use Rattle.roster.proofs.Laws.{distinct-not, distinct-on, distinct-end}
 use borrow.Author.Needs.{needs}
