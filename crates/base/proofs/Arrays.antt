@@ -33,9 +33,9 @@ pub take-held : {A : Type 0} (es : List A) (n m : ℕ) → length es ≡ m → t
 take-held es n m l =
     cases (leb n m) (λ t. rw (min-eq-left (leb-true n m t)))
     (λ f.
-      let h : m < n = leb-false n m f in
-      let k : m ≤ n = omega arith in
-      rw (min-eq-right k, take-all m es (omega arith), take-all n es (omega arith)))
+    let h : m < n = leb-false n m f in
+    let k : m ≤ n = omega arith in
+    rw (min-eq-right k, take-all m es (omega arith), take-all n es (omega arith)))
 
 -- the length of an array of structs, of which the logic tells the length of a map: `search (unmapped, needs)`
 pub unmapped : {X Y : Type 0} (f : X → Y) (l : List X) (n : ℕ) → length (map f l) ≡ n → length l ≡ n

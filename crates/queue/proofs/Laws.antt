@@ -62,12 +62,6 @@ module _ (es : List QueueEntry) (len n at p : ℕ) (long : length es ≡ 64) (cl
       ap some (sym (getD-take n es at noEntry h) ∙ ap (λ (m : ℕ). getD (take n es) m noEntry) found) ∙ sym (seek-at (isOf p) some none noEntry (take n es) in-row) in
       rw (← same) (λ j. record { queue = q j; taken = gives (t j) })
 
-  -- nobody of that player waits: no wait
-  pub waited-nobody : (clock : ℕ) → n ≤ at → none ≡ firstWait p clock (take len es)
-  waited-nobody clock h =
-      let past : length (take n es) ≤ place (isOf p) (take n es) = omega (arith, full) in
-      rw (← same) (sym (seek-none (isOf p) (λ e. some (since clock (e .joined))) none noEntry (take n es) past))
-
   -- the wait of the entry at its place
   pub waited : (clock t : ℕ) → at < n → t ≡ since clock (getD es at noEntry .joined) → some t ≡ firstWait p clock (take len es)
   waited clock t h e =
@@ -75,6 +69,12 @@ module _ (es : List QueueEntry) (len n at p : ℕ) (long : length es ≡ 64) (cl
       let w : getD es at noEntry ≡ getD (take n es) (place (isOf p) (take n es)) noEntry = sym (getD-take n es at noEntry h) ∙ ap (λ (m : ℕ). getD (take n es) m noEntry) found in
       rw (← same)
       (ap some e ∙ ap (λ (x : QueueEntry). some (since clock (x .joined))) w ∙ sym (seek-at (isOf p) (λ x. some (since clock (x .joined))) none noEntry (take n es) in-row))
+
+  -- nobody of that player waits: no wait
+  pub waited-nobody : (clock : ℕ) → n ≤ at → none ≡ firstWait p clock (take len es)
+  waited-nobody clock h =
+      let past : length (take n es) ≤ place (isOf p) (take n es) = omega (arith, full) in
+      rw (← same) (sym (seek-none (isOf p) (λ e. some (since clock (e .joined))) none noEntry (take n es) past))
 
 -- ---- take_all
 

@@ -9,19 +9,19 @@ use Rattle.queue.proofs.Queue.enqueue.Statement.{statement}
 use Rattle.queue.proofs.Queue.enqueue.Tie as tie
 
 returns : tie.Need-returns
-returns c = rw (le-leb _ _ (c .if1 .taken))
+returns c = rw (le-leb 64 (c .before .args .self .len) (omega arith))
 
 is-late-requires : tie.Need-is-late-requires
 is-late-requires c κs = search needs
 
 returns-2 : tie.Need-returns-2
-returns-2 c = rw (lt-leb _ _ (c .before .before .before .if1 .left), sym (c .before .is-late .ensures) ∙ c .if2 .taken)
+returns-2 c = rw (lt-leb 64 (c .before .before .before .before .args .self .len) (omega arith), sym (c .before .is-late .ensures) ∙ c .if2 .taken)
 
 any-late-requires : tie.Need-any-late-requires
 any-late-requires c κs = search needs
 
 returns-3 : tie.Need-returns-3
-returns-3 c = rw (lt-leb _ _ (c .before .before .before .before .before .if1 .left), sym (c .before .before .before .is-late .ensures) ∙ c .before .before .if2 .left, sym (c .before .any-late .ensures) ∙ c .if3 .taken)
+returns-3 c = rw (lt-leb 64 (c .before .before .before .before .before .before .args .self .len) (omega arith), sym (c .before .before .before .is-late .ensures) ∙ c .before .before .if2 .left, sym (c .before .any-late .ensures) ∙ c .if3 .taken)
 
 mul-entry : tie.Need-mul-entry
 mul-entry c = search needs

@@ -12,7 +12,7 @@ place-of-requires : tie.Need-place-of-requires
 place-of-requires c κs = search needs
 
 returns : tie.Need-returns
-returns c = 
+returns c =
     let q = c .before .before .before .before .args .self in
     waited-nobody (q .entries) (q .len) _ _ _ (search (unmapped, needs)) (c .before .before .held .ensures) (c .before .place-of .ensures) _ (c .if1 .taken)
 
@@ -26,7 +26,7 @@ elapsed-requires : tie.Need-elapsed-requires
 elapsed-requires c κs = search needs
 
 returns-2 : tie.Need-returns-2
-returns-2 c = 
+returns-2 c =
     let q = c .before .before .before .before .before .before .args .self in
     waited (q .entries) (q .len) _ _ _ (search (unmapped, needs)) (c .before .before .before .before .held .ensures) (c .before .before .before .place-of .ensures) _ _ (c .before .before .if1 .left) (c .elapsed .ensures)
 

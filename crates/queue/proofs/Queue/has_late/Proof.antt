@@ -17,7 +17,7 @@ any-late-requires : tie.Need-any-late-requires
 any-late-requires c κs = search needs
 
 returns : tie.Need-returns
-returns c = 
+returns c =
     let q = c .before .before .before .args .self in
     c .any-late .ensures ∙ ap (λ (n : ℕ). any isLate (take n (q .entries))) (c .before .held .ensures)
     ∙ ap (any isLate) (take-held (q .entries) (q .len) 64 (search (unmapped, needs)))
