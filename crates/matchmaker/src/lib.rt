@@ -1,0 +1,182 @@
+// Teams, proposed matches and match quality (matchmaker.rs).
+ghost use mathlib.Core.Path.{_≡_};
+ghost use mathlib.Core.Bool.{_||_};
+ghost use mathlib.Core.List.{foldl};
+ghost use lib.ListN.{length};
+ghost use lib.Ieee as Ieee;
+ghost use lib.Ieee.{binary64};
+ghost use Rattle.base.specs.Lists.{member};
+ghost use Rattle.roster.specs.Roster.{ofRatings, observe, observedOf};
+ghost use Rattle.matchmaker.specs.Quality.{teamOf, matchOf, overfull, seated, observations, averageFrom, averageOf, qualityBetween, qualityOf, QualityPromise};
+ghost use Rattle.matchmaker.specs.Steps.{absorb};
+use base::Checked;
+use base::Refusal;
+use roster::Observed;
+
+// The first `len` players, in order.
+#[repr(C)]
+pub struct Team {
+    pub players: [u64; 8],
+    pub len: usize,
+}
+
+#[repr(C)]
+pub struct ProposedMatch {
+    pub a: Team,
+    pub b: Team,
+}
+
+pub enum Quality {
+    Refused(Refusal),
+    Of(f64),
+}
+
+// ---- leaves, for every length and every column
+
+// The sum with what was observed of one more player.
+pub fn add_observed(sum: f64, observed: Observed) -> f64
+    ensures { λ r. ⌜ r ≡ absorb (Ieee.add binary64) sum (observedOf observed) ⌝ }
+{
+    match observed {
+        Observed::Of(x) => sum + x,
+        Observed::Nothing => sum,
+    }
+}
+
+// The sum with what the column says of one more player.
+fn add_player(sum: f64, ids: &[u64], column: &[f64], player: u64) -> f64
+    ensures { λ r. ⌜ r ≡ absorb (Ieee.add binary64) sum (observe (now (ids .entry)) (now (column .entry)) player) ⌝ }
+{
+    add_observed(sum, roster::observation(ids, column, player))
+}
+
+// A team's sum divided by its length, or by 1 where it is empty.
+pub fn average(sum: f64, len: usize) -> f64
+    ensures { λ r. ⌜ r ≡ averageFrom sum len ⌝ }
+{
+    let mut seats = len as u64;
+    if seats == 0 {
+        seats = 1;
+    }
+    sum / std::num::nearest_u64_to_f64(seats)
+}
+
+// The quality of two averages.
+pub fn quality_between(x: f64, y: f64) -> f64
+    ensures { λ r. ⌜ r ≡ qualityBetween x y ⌝ }
+{
+    1.0 - base::min(base::abs(x - y) / 400.0, 1.0)
+}
+
+impl Team {
+    // How many players the team holds: 8 at most, whatever length it states.
+    pub fn held(self) -> usize
+        ensures { λ r. ⌜ r ≡ length (teamOf self .players) ⌝ }
+    {
+        if 8 < self.len {
+            return 8;
+        }
+        self.len
+    }
+
+    // The sum with what the column says of the team's players, in their order.
+    pub fn add_to(self, sum: f64, ids: &[u64], column: &[f64]) -> f64
+        ensures { λ r. ⌜ r ≡ foldl (Ieee.add binary64) sum (observations (observe (now (ids .entry)) (now (column .entry))) (teamOf self .players)) ⌝ }
+    {
+        let players = self.players;
+        let n = self.held();
+        let mut total = sum;
+        let mut i: usize = 0;
+        while i < n {
+            total = add_player(total, ids, column, players[i]);
+            i += 1;
+        }
+        total
+    }
+
+    // Is the player in the team?
+    pub fn has(self, player: u64) -> bool
+        ensures { λ r. ⌜ r ≡ member player (teamOf self .players) ⌝ }
+    {
+        let players = self.players;
+        let n = self.held();
+        let mut i: usize = 0;
+        while i < n {
+            if players[i] == player {
+                return true;
+            }
+            i += 1;
+        }
+        false
+    }
+
+    // The team's average rating: a player without a row counts in the length alone.
+    pub fn average_rating(self, ids: &[u64], ratings: &[f64]) -> f64
+        ensures { λ r. ⌜ r ≡ averageOf (ofRatings (now (ids .entry)) (now (ratings .entry))) (teamOf self .players) ⌝ }
+    {
+        let n = self.held();
+        average(self.add_to(0.0, ids, ratings), n)
+    }
+}
+
+// ---- match quality
+
+impl ProposedMatch {
+    // How many are seated.
+    pub fn seats(self) -> usize
+        ensures { λ r. ⌜ r ≡ length (seated (matchOf self)) ⌝ }
+    {
+        let a = self.a;
+        let b = self.b;
+        a.held() + b.held()
+    }
+
+    // Is the player seated?
+    pub fn seats_player(self, player: u64) -> bool
+        ensures { λ r. ⌜ r ≡ member player (seated (matchOf self)) ⌝ }
+    {
+        let a = self.a;
+        let b = self.b;
+        if a.has(player) {
+            return true;
+        }
+        b.has(player)
+    }
+
+    // Is a team over 8?
+    pub fn is_overfull(self) -> bool
+        ensures { λ r. ⌜ r ≡ overfull (matchOf self) ⌝ }
+    {
+        let a = self.a;
+        let b = self.b;
+        if 8 < a.len {
+            return true;
+        }
+        8 < b.len
+    }
+
+    // The quality of two teams of any stated length by any columns.
+    pub fn rated_quality(self, ids: &[u64], ratings: &[f64]) -> f64
+        ensures { λ r. ⌜ r ≡ qualityOf (ofRatings (now (ids .entry)) (now (ratings .entry))) (matchOf self .a .players) (matchOf self .b .players) ⌝ }
+    {
+        let a = self.a;
+        let b = self.b;
+        quality_between(
+            a.average_rating(ids, ratings),
+            b.average_rating(ids, ratings),
+        )
+    }
+
+    // How even the teams are: 1.0 where their averages are equal, 0.0 where they differ by 400 points or more.
+    pub fn match_quality(self, ids: &[u64], ratings: &[f64]) -> Quality
+        ensures { λ r. ⌜ QualityPromise (ofRatings (now (ids .entry)) (now (ratings .entry))) (matchOf self) r ⌝ }
+    {
+        if self.is_overfull() {
+            return Quality::Refused(Refusal::OverLimit);
+        }
+        match roster::check_ratings(ids, ratings) {
+            Checked::Passed => Quality::Of(self.rated_quality(ids, ratings)),
+            Checked::Refused(refusal) => Quality::Refused(refusal),
+        }
+    }
+}
