@@ -1,0 +1,47 @@
+// The functions, by the first word of their lines. Each has a module with a `replay`, which reads the inputs, calls the proved
+// function, and goes past the outputs, which have to be what the function gives. A new one: its module, its name, its arm.
+use crate::words;
+use words::Cursor;
+
+mod as_secs_f64;
+mod check_roster;
+mod duration_since;
+mod enqueue;
+mod remove;
+mod remove_batch;
+mod waiting_time;
+
+pub fn write_name(code: u64) -> bool {
+    match code {
+        1 => io::write_all(1, b"enqueue"),
+        2 => io::write_all(1, b"remove"),
+        3 => io::write_all(1, b"remove_batch"),
+        4 => io::write_all(1, b"waiting_time"),
+        5 => io::write_all(1, b"duration_since"),
+        6 => io::write_all(1, b"as_secs_f64"),
+        7 => io::write_all(1, b"check_roster"),
+        _ => write_unknown(code),
+    }
+}
+
+// `code-13`, or `other` for 0, where lines are counted whose code can't be read or is 32 or more.
+fn write_unknown(code: u64) -> bool {
+    if code == 0 {
+        return io::write_all(1, b"other");
+    }
+    io::write_all(1, b"code-");
+    io::print_decimal(1, code)
+}
+
+pub fn replay(text: &[u8], code: u64, inputs: Cursor) -> Cursor {
+    match code {
+        1 => enqueue::replay(text, inputs),
+        2 => remove::replay(text, inputs),
+        3 => remove_batch::replay(text, inputs),
+        4 => waiting_time::replay(text, inputs),
+        5 => duration_since::replay(text, inputs),
+        6 => as_secs_f64::replay(text, inputs),
+        7 => check_roster::replay(text, inputs),
+        _ => words::checked(inputs, false),
+    }
+}
