@@ -1,10 +1,10 @@
 -- The first n elements of an array, walked from the front, and grown at the end.
 use Prim.Native.Nat.{ℕ, suc, _+_, _≤_, _<_, min}
-use mathlib.Core.Path.{_≡_, refl, sym, _∙_}
+use mathlib.Core.Path.{_≡_, refl, sym, ap, _∙_}
 use mathlib.Core.List.{List, [], _∷_, _++_, map}
 use native.Mathlib.Numerals.{add-one}
 use native.Mathlib.Omega.{arith}
-use lib.ListN.{length, take, drop, getD, set, length-map}
+use lib.ListN.{length, take, drop, getD, set, length-map, length-take}
 use native.Mathlib.Nat.{min-eq-left, min-eq-right}
 use borrow.Author.Tests.{leb-true, leb-false}
 use lib.Dec.{leb}
@@ -36,6 +36,19 @@ take-held es n m l =
     let h : m < n = leb-false n m f in
     let k : m ≤ n = omega arith in
     rw (min-eq-right k, take-all m es (omega arith), take-all n es (omega arith)))
+
+module _ {A : Type 0} where
+  -- as many as are held are all that are held
+  pub all-held : (len : ℕ) (xs : List A) {n : ℕ} → n ≡ length (take len xs) → take n xs ≡ take len xs
+  all-held len xs e = ap (λ (k : ℕ). take k xs) (e ∙ length-take len xs) ∙ take-held xs len (length xs) refl
+
+  -- no more are held than there are
+  pub held-fits : (len : ℕ) (xs : List A) {n : ℕ} → n ≡ length (take len xs) → n ≤ length xs
+  held-fits len xs e = omega (arith, length-take len xs)
+
+  -- a stated length over the array's holds all of it
+  pub take-over : (n : ℕ) (xs : List A) → length xs < n → length xs ≡ length (take n xs)
+  take-over n xs h = sym (ap length (take-all n xs (omega arith)))
 
 -- the length of an array of structs, of which the logic tells the length of a map: `search (unmapped, needs)`
 pub unmapped : {X Y : Type 0} (f : X → Y) (l : List X) (n : ℕ) → length (map f l) ≡ n → length l ≡ n

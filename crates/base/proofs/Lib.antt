@@ -7,3 +7,4 @@ pub mod Sign
 pub mod Order
 pub mod Highest
 pub mod Sorting
+pub mod Checks

@@ -171,6 +171,11 @@ module _ {A B : Type 0} (f : B → A → B) (d : A) (es : List A) (n i : ℕ) (f
   pub fold-end-of : (b : B) → n ≤ i → i ≤ n → foldl f b (drop i (take n es)) ≡ b
   fold-end-of b h k = rw (peeled es n i fits h k) refl
 
+-- folding two lists is folding the second from what the first gives
+pub fold-append : {A B : Type 0} (f : B → A → B) (b : B) (xs ys : List A) → foldl f b (xs ++ ys) ≡ foldl f (foldl f b xs) ys
+fold-append f b [] ys = refl
+fold-append f b (x ∷ xs) ys = fold-append f (f b x) xs ys
+
 -- ---- times: a loop that counts up and reads several columns
 
 module _ {B : Type 0} (f : ℕ → B → B) (s : B) (i : ℕ) where

@@ -49,6 +49,13 @@ unfolding seek
 member-append-left n [] ys h = never cc
 member-append-left n (x ∷ xs) ys h = cases (eqb x n) (λ t. rw t) (λ f. rw f (member-append-left n xs ys (rw f at h)))
 
+-- who is not in the first is in both together where they are in the second
+pub member-append-absent : (n : ℕ) (xs ys : List ℕ) → member n xs ≡ false → member n ys ≡ member n (xs ++ ys)
+unfolding seek
+member-append-absent n [] ys h = refl
+member-append-absent n (x ∷ xs) ys h =
+    cases (eqb x n) (λ t. never (let e : true ≡ false = rw t at h in cc)) (λ f. rw f (member-append-absent n xs ys (rw f at h)))
+
 pub member-append-right : (n : ℕ) (xs ys : List ℕ) → member n ys ≡ true → member n (xs ++ ys) ≡ true
 member-append-right n [] ys h = h
 member-append-right n (x ∷ xs) ys h = member-tail n x (xs ++ ys) (member-append-right n xs ys h)

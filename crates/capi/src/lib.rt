@@ -6,3 +6,6 @@ pub mod queues;
 
 // The roster's checks.
 pub mod rosters;
+
+// Quality, scores, soft objectives and objective vectors.
+pub mod scores;

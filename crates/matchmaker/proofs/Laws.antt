@@ -15,27 +15,12 @@ use Rattle.base.specs.Refusals.{Outcome, refused, gives, guarded, refusalNumber
 use Rattle.base.specs.declared.Checked.{Checked}
 use Rattle.base.specs.declared.Checked.the-variants.{Passed, Refused}
 use Rattle.base.specs.declared.Refusal.{Refusal}
-use Rattle.base.proofs.Arrays.{take-held}
 use Rattle.base.proofs.Cases.{cases, never}
-use Rattle.base.proofs.Members.{member-append-left}
+use Rattle.base.proofs.Checks.{guard-refuses, guard-passes}
+use Rattle.base.proofs.Loops.{fold-append}
 use Rattle.roster.specs.Roster.{Roster, ratingsCheck}
 use Rattle.matchmaker.specs.Quality.{MatchState, overfull, consSome, observations, averageFrom, qualityOf, qualityRule}
 use Rattle.matchmaker.specs.Steps.{absorb}
-
--- ---- the first of an array, whatever length is stated
-
-module _ {A : Type 0} where
-  -- as many as are held are all that are held
-  pub all-held : (len : ℕ) (xs : List A) {n : ℕ} → n ≡ length (take len xs) → take n xs ≡ take len xs
-  all-held len xs e = ap (λ (k : ℕ). take k xs) (e ∙ length-take len xs) ∙ take-held xs len (length xs) refl
-
-  -- no more are held than there are
-  pub held-fits : (len : ℕ) (xs : List A) {n : ℕ} → n ≡ length (take len xs) → n ≤ length xs
-  held-fits len xs e = omega (arith, length-take len xs)
-
-  -- a stated length over the array's holds all of it
-  pub take-over : (n : ℕ) (xs : List A) → length xs < n → length xs ≡ length (take n xs)
-  take-over n xs h = sym (ap length (take-all n xs (omega arith)))
 
 -- ---- sums
 
@@ -50,11 +35,6 @@ module _ {A B : Type 0} (f : B → A → B) where
   unfolding observations
   fold-observations g b [] = refl
   fold-observations g b (p ∷ ps) = fold-observations g (absorb f b (g p)) ps ∙ absorb-first b (g p) (observations g ps)
-
-  -- folding two lists is folding the second from what the first gives
-  pub fold-append : (b : B) (xs ys : List A) → foldl f b (xs ++ ys) ≡ foldl f (foldl f b xs) ys
-  fold-append b [] ys = refl
-  fold-append b (x ∷ xs) ys = fold-append (f b x) xs ys
 
 module _ {A : Type 0} (g : ℕ → Option A) where
   consSome-append : (o : Option A) (xs ys : List A) → consSome o (xs ++ ys) ≡ consSome o xs ++ ys
@@ -82,29 +62,6 @@ sum-snoc g = fold-snoc g (add binary64)
 pub averaged : (sum : Float) (len n : ℕ) → n ≡ max len 1 → div binary64 sum (ofInt binary64 (pos n)) ≡ averageFrom sum len
 unfolding averageFrom
 averaged sum len n e = ap (λ (k : ℕ). div binary64 sum (ofInt binary64 (pos k))) e
-
--- ---- who is seated
-
--- who is in team A is seated
-pub seated-first : (n : ℕ) (xs ys : List ℕ) → member n xs ≡ true → true ≡ member n (xs ++ ys)
-seated-first n xs ys h = sym (member-append-left n xs ys h)
-
--- who is not in team A is seated where they are in team B
-pub seated-second : (n : ℕ) (xs ys : List ℕ) → member n xs ≡ false → member n ys ≡ member n (xs ++ ys)
-unfolding seek
-seated-second n [] ys h = refl
-seated-second n (x ∷ xs) ys h = cases (eqb x n) (λ t. never (let e : true ≡ false = rw t at h in cc)) (λ f. rw f (seated-second n xs ys (rw f at h)))
-
--- ---- for base: what comes of a check
-
-module _ {A : Type 0} (v : Outcome A) (k : Checked) {o : Outcome Unit} where
-  -- a check that refuses is answered by its refusal
-  pub guard-refuses : {x : Refusal} → k ≡ Refused x → checkedOf k ≡ o → refused (refusalNumber x) ≡ guarded o v
-  guard-refuses e h = rw (← h, e)
-
-  -- a check that passes leaves the answer to what comes behind it
-  pub guard-passes : k ≡ Passed → checkedOf k ≡ o → v ≡ guarded o v
-  guard-passes e h = rw (← h, e)
 
 -- ---- answers
 

@@ -164,7 +164,6 @@ fn roster_check() {
 }
 
 /// Lines of scores, their values computed anew from document 01.
-#[cfg(feature = "scores")]
 mod scores {
     use super::{Entry, Reader, lines};
     use compare::same::Same;

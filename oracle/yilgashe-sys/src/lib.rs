@@ -2,11 +2,9 @@
 //!
 //! A refusal is 0 for none, else the number of document 01.
 
-#[cfg(feature = "scores")]
 mod scores;
 mod show;
 
-#[cfg(feature = "scores")]
 pub use scores::*;
 
 /// One waiting player; party 0 and role 0 mean none.

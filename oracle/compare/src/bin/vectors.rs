@@ -19,7 +19,6 @@ const LAYOUT: &str = "\
 # 6 as_secs_f64: time -> refusal, seconds
 # 7 roster check: six times n and n words (ids ratings deviations parties roles regions) -> refusal";
 
-#[cfg(feature = "scores")]
 const SCORES: &str = "\
 # team = n and n players, or 9 alone for a len field of 9; column = n and n words, or 129 alone for 129 rows.
 # A value that is NaN is written 7ff8000000000000.
@@ -49,7 +48,6 @@ fn write(cases: u64, seed: u64) -> io::Result<()> {
         "# Answers of the unchanged Rust (matchlab commit fe3a82e733); refusals by document 01."
     )?;
     writeln!(out, "{LAYOUT}")?;
-    #[cfg(feature = "scores")]
     writeln!(out, "{SCORES}")?;
     for function in FAMILIES.iter().flat_map(|(_, functions)| *functions) {
         let Some(store) = function.store else {

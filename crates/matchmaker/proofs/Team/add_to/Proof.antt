@@ -9,7 +9,8 @@ use Rattle.base.proofs.Arrays.{unmapped}
 use Rattle.base.proofs.Loops.{fold-on-of, fold-end-of}
 use Rattle.roster.specs.Roster.{observe}
 use Rattle.matchmaker.specs.Steps.{absorb}
-use Rattle.matchmaker.proofs.Laws.{all-held, held-fits, fold-observations}
+use Rattle.base.proofs.Arrays.{all-held, held-fits}
+use Rattle.matchmaker.proofs.Laws.{fold-observations}
 use borrow.Author.Needs.{needs}
 use Rattle.matchmaker.proofs.Team.add_to.Statement.{statement}
 use Rattle.matchmaker.proofs.Team.add_to.Tie as tie

@@ -7,7 +7,7 @@ use lib.ListN.{length, take, drop, getD}
 use Rattle.base.specs.Lists.{member}
 use Rattle.base.proofs.Arrays.{unmapped}
 use Rattle.base.proofs.Loops.{seek-hit-of, seek-on-of, seek-end-of}
-use Rattle.matchmaker.proofs.Laws.{all-held, held-fits}
+use Rattle.base.proofs.Arrays.{all-held, held-fits}
 use borrow.Author.Needs.{needs}
 use Rattle.matchmaker.proofs.Team.has.Statement.{statement}
 use Rattle.matchmaker.proofs.Team.has.Tie as tie

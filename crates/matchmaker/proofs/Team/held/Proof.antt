@@ -3,7 +3,7 @@ use mathlib.Core.Path.{_≡_, sym, _∙_}
 use native.Mathlib.Omega.{arith}
 use lib.ListN.{length}
 use lib.Seq.{length-take-le}
-use Rattle.matchmaker.proofs.Laws.{take-over}
+use Rattle.base.proofs.Arrays.{take-over}
 use Rattle.base.proofs.Arrays.{unmapped}
 use borrow.Author.Needs.{needs}
 use Rattle.matchmaker.proofs.Team.held.Statement.{statement}

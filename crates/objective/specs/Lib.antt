@@ -1,0 +1,3 @@
+pub mod Score
+pub mod Soft
+pub mod Pareto
