@@ -2,16 +2,16 @@
 -- (the list itself) and, ending in -of, over the first n elements of an array. The invariant says what the rest still gives.
 use Prim.Native.Nat.{ℕ, zero, suc, _+_, _-_, _≤_, _<_}
 use mathlib.Core.Path.{_≡_, refl, sym, ap, _∙_}
-use mathlib.Core.Bool.{Bool, true, false, not, cond}
+use mathlib.Core.Bool.{Bool, true, false, not, cond, _&&_}
 use mathlib.Core.List.{List, [], _∷_, _++_, foldl, append-nil}
 use native.Mathlib.Numerals.{add-one}
 use native.Mathlib.Omega.{arith}
 use lib.ListN.{length, take, drop, getD, set, drop-of-length-le}
 use lib.Seq.{drop-cons, append-snoc, length-take-le}
 use native.Mathlib.Nat.{le-of-suc-le-suc, not-suc-le-zero}
-use Rattle.base.specs.Lists.{seek, keep, place, removeFirst, times}
+use Rattle.base.specs.Lists.{seek, every, keep, place, removeFirst, times}
 use Rattle.base.proofs.Cases.{cases}
-use Rattle.base.proofs.Arrays.{peel, peeled, push}
+use Rattle.base.proofs.Arrays.{peel, peeled, push, all-held, held-fits}
 
 -- ---- seek: the first element that p holds of
 
@@ -46,6 +46,28 @@ module _ {A B : Type 0} (p : A → Bool) (f : A → B) (b : B) where
   pub seek-end-of : (es : List A) (n i : ℕ) → n ≤ length es → seek p f b (take n es) ≡ seek p f b (drop i (take n es)) → n ≤ i → i ≤ n → b ≡ seek p f b (take n es)
   unfolding seek
   seek-end-of es n i fits inv h k = sym (inv ∙ rw (peeled es n i fits h k))
+
+-- ---- seek over as many of an array as are held, whatever length is stated
+
+module _ {A B : Type 0} (p : A → Bool) (f : A → B) (b : B) (es : List A) (len n i : ℕ) (held : n ≡ length (take len es)) (inv : seek p f b (take n es) ≡ seek p f b (drop i (take n es))) where
+  -- the element at i is the first that p holds of
+  pub held-hit : (d : A) → i < n → p (getD es i d) ≡ true → f (getD es i d) ≡ seek p f b (take len es)
+  held-hit d h e = seek-hit-of p f b es n i d (held-fits len es held) inv h e ∙ ap (seek p f b) (all-held len es held)
+
+  -- the element at i is not: the rest decides
+  pub held-on : (d : A) → i < n → p (getD es i d) ≡ false → seek p f b (take n es) ≡ seek p f b (drop (i + 1) (take n es))
+  held-on d h e = seek-on-of p f b es n i d (held-fits len es held) inv h e
+
+  -- no element is left
+  pub held-end : n ≤ i → i ≤ n → b ≡ seek p f b (take len es)
+  held-end h k = seek-end-of p f b es n i (held-fits len es held) inv h k ∙ ap (seek p f b) (all-held len es held)
+
+-- ---- every: of two lists together
+
+pub every-append : {A : Type 0} (p : A → Bool) (xs ys : List A) → every p (xs ++ ys) ≡ (every p xs && every p ys)
+unfolding seek
+every-append p [] ys = refl
+every-append p (x ∷ xs) ys = cases (p x) (λ t. rw t (every-append p xs ys)) (λ f. rw f)
 
 -- ---- place: where the first element that p holds of stands
 
@@ -144,6 +166,38 @@ module _ {A : Type 0} (p : A → Bool) where
   pub keep-end-of : (es : List A) (n : ℕ) (out : List A) (k i : ℕ) → n ≤ length es → take k out ++ keep p (drop i (take n es)) ≡ keep p (take n es) → n ≤ i → i ≤ n → take k out ≡ keep p (take n es)
   unfolding keep
   keep-end-of es n out k i fits inv h l = sym (append-nil (take k out)) ∙ (rw (peeled es n i fits h l) at inv)
+
+-- ---- how many are kept
+
+module _ {A : Type 0} (p : A → Bool) where
+  -- what is kept of two lists is what is kept of the first, then of the second
+  pub keep-append : (xs ys : List A) → keep p (xs ++ ys) ≡ keep p xs ++ keep p ys
+  unfolding keep
+  keep-append [] ys = refl
+  keep-append (x ∷ xs) ys =
+      cases (p x) (λ t. rw t (ap (λ (r : List A). x ∷ r) (keep-append xs ys))) (λ f. rw f (keep-append xs ys))
+
+  module _ (es : List A) (n k i : ℕ) (d : A) (fits : n ≤ length es) (inv : k + length (keep p (drop i (take n es))) ≡ length (keep p (take n es))) where
+    -- the element at i is kept: one more
+    pub count-on-of : i < n → p (getD es i d) ≡ true → k + 1 + length (keep p (drop (i + 1) (take n es))) ≡ length (keep p (take n es))
+    unfolding keep
+    count-on-of h e =
+        let z : length (keep p (drop i (take n es))) ≡ suc (length (keep p (drop (i + 1) (take n es)))) = rw (peel es n i d fits h, e) in
+        omega arith
+
+    -- the element at i is not kept: no more
+    pub count-skip-of : i < n → p (getD es i d) ≡ false → k + length (keep p (drop (i + 1) (take n es))) ≡ length (keep p (take n es))
+    unfolding keep
+    count-skip-of h e =
+        let z : length (keep p (drop i (take n es))) ≡ length (keep p (drop (i + 1) (take n es))) = rw (peel es n i d fits h, e) in
+        omega arith
+
+  -- nothing is left: all are counted
+  pub count-end-of : (es : List A) (n k i : ℕ) → n ≤ length es → k + length (keep p (drop i (take n es))) ≡ length (keep p (take n es)) → n ≤ i → i ≤ n → k ≡ length (keep p (take n es))
+  unfolding keep
+  count-end-of es n k i fits inv h l =
+      let z : length (keep p (drop i (take n es))) ≡ 0 = rw (peeled es n i fits h l) in
+      omega arith
 
 -- ---- a row moved up by one over the place of an element that leaves
 

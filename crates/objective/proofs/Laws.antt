@@ -1,11 +1,10 @@
 -- The laws of objectives: vectors, waits, sums and answers.
-use Prim.Native.Nat.{ℕ, suc, _+_, _≤_, _<_}
-use mathlib.Core.Path.{_≡_, refl, sym, ap, _∙_}
-use mathlib.Core.Bool.{Bool, true, false, not, cond, _&&_}
-use mathlib.Core.List.{List, [], _∷_, _++_, foldl}
+use Prim.Native.Nat.{ℕ, _+_, _≤_, _<_}
+use mathlib.Core.Path.{_≡_, sym, ap, _∙_}
+use mathlib.Core.Bool.{Bool, true, false, cond}
+use mathlib.Core.List.{List, _∷_, _++_, foldl}
 use mathlib.Core.Option.{Option}
 use native.Mathlib.Numerals.{add-one}
-use native.Mathlib.Omega.{arith}
 use lib.Dec.{ltb}
 use lib.Ieee.{Float, binary64, add, lt}
 use lib.ListN.{length, take, drop, getD, drop-of-length-le}
@@ -16,7 +15,6 @@ use Rattle.base.specs.Refusals.{Outcome, refused, gives, guarded, refusalNumber
 use Rattle.base.specs.declared.Checked.{Checked}
 use Rattle.base.specs.declared.Checked.the-variants.{Passed, Refused}
 use Rattle.base.specs.declared.Refusal.{Refusal}
-use Rattle.base.proofs.Cases.{cases, never}
 use Rattle.queue.specs.Time.{late}
 use Rattle.queue.specs.Queue.{QueueState, isLate}
 use Rattle.queue.specs.declared.QueueEntry.{QueueEntry}

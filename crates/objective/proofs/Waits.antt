@@ -1,16 +1,17 @@
 -- What the longest wait and the score depend on.
 use Prim.Native.Nat.{ℕ}
 use mathlib.Core.Path.{_≡_, refl, sym, ap, _∙_}
-use mathlib.Core.Bool.{Bool, true, false, cond, true≢false}
+use mathlib.Core.Bool.{Bool, true, false, true≢false}
 use mathlib.Core.List.{List, [], _∷_, _++_, foldl}
-use mathlib.Core.Option.{Option, none, Option·map}
+use mathlib.Core.Option.{Option, none, some, Option·map}
+use borrow.Author.Tests.{eq-eqb}
 use lib.Ieee.{Float, nan, inf, fin, lt, ofBits}
 use Rattle.base.specs.Floats as F
 use Rattle.base.specs.Lists.{seek, any, All}
 use Rattle.base.proofs.Cases.{cases, never}
 use Rattle.base.proofs.Order.{lt-asym, lt-irrefl, not-lt-trans}
-use Rattle.queue.specs.Queue.{isOf, firstWait}
-use Rattle.queue.specs.Time.{secondsOf}
+use Rattle.queue.specs.Queue.{isOf}
+use Rattle.queue.specs.Time.{since, secondsOf}
 use Rattle.queue.specs.declared.QueueEntry.{QueueEntry}
 use Rattle.roster.specs.Roster.{Roster}
 use Rattle.matchmaker.specs.Quality.{MatchState, observations}
@@ -22,6 +23,11 @@ use Rattle.objective.specs.Score.{longer, waitedSeconds, longestWait, sc
 pub nobody-waits : (clock : ℕ) (queue : List QueueEntry) → longestWait clock queue [] ≡ F.zero
 unfolding observations
 nobody-waits clock queue = refl
+
+-- a player's first entry gives their wait, whatever copies stand behind it
+pub first-counts : (clock : ℕ) (e : QueueEntry) (queue : List QueueEntry) → waitedSeconds clock (e ∷ queue) (e .player) ≡ some (secondsOf (since clock (e .joined)))
+unfolding seek
+first-counts clock e queue = rw (eq-eqb (e .player) (e .player) refl)
 
 -- ---- who isn't queued
 
@@ -86,7 +92,7 @@ module _ (clock : ℕ) (queue : List QueueEntry) (ps : List ℕ) where
   pub longest-low : lt (longestWait clock queue ps) F.zero ≡ false
   longest-low = tops F.zero (observations (waitedSeconds clock queue) ps) zero-sound .1
 
-  -- it is below nobody's wait
+  -- it is below the wait of nobody
   pub longest-tops : All (λ x. lt (longestWait clock queue ps) x ≡ false) (observations (waitedSeconds clock queue) ps)
   longest-tops = tops F.zero (observations (waitedSeconds clock queue) ps) zero-sound .2
 

@@ -5,10 +5,15 @@ use words::Cursor;
 
 mod as_secs_f64;
 mod check_roster;
+mod dominates;
 mod duration_since;
 mod enqueue;
+mod match_quality;
+mod match_score;
 mod remove;
 mod remove_batch;
+mod scalarize;
+mod soft_score;
 mod waiting_time;
 
 pub fn write_name(code: u64) -> bool {
@@ -20,6 +25,11 @@ pub fn write_name(code: u64) -> bool {
         5 => io::write_all(1, b"duration_since"),
         6 => io::write_all(1, b"as_secs_f64"),
         7 => io::write_all(1, b"check_roster"),
+        8 => io::write_all(1, b"match_quality"),
+        9 => io::write_all(1, b"match_score"),
+        10 => io::write_all(1, b"soft_score"),
+        11 => io::write_all(1, b"scalarize"),
+        12 => io::write_all(1, b"dominates"),
         _ => write_unknown(code),
     }
 }
@@ -42,6 +52,11 @@ pub fn replay(text: &[u8], code: u64, inputs: Cursor) -> Cursor {
         5 => duration_since::replay(text, inputs),
         6 => as_secs_f64::replay(text, inputs),
         7 => check_roster::replay(text, inputs),
+        8 => match_quality::replay(text, inputs),
+        9 => match_score::replay(text, inputs),
+        10 => soft_score::replay(text, inputs),
+        11 => scalarize::replay(text, inputs),
+        12 => dominates::replay(text, inputs),
         _ => words::checked(inputs, false),
     }
 }

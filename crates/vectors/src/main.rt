@@ -13,8 +13,20 @@ mod queues;
 // Lists of a line.
 mod lists;
 
+// Columns of a line.
+mod columns;
+
+// Teams and matches of a line.
+mod teams;
+
+// Objective vectors of a line.
+mod coordinates;
+
 // Refusals of a line.
 mod refusals;
+
+// Scores of a line.
+mod scores;
 
 // Counts and what is written.
 mod tally;

@@ -1,6 +1,5 @@
 // time -> refusal, seconds
-use crate::floats;
-use crate::refusals;
+use crate::scores;
 use crate::words;
 use queue::time;
 use time::Seconds;
@@ -10,13 +9,7 @@ pub fn replay(text: &[u8], inputs: Cursor) -> Cursor {
     let nanos = words::next(text, inputs);
     let given = time::as_secs_f64(nanos.value);
     match given {
-        Seconds::Refused(refusal) => {
-            let refused = words::expect(text, nanos.cursor, refusals::number(refusal));
-            floats::expect(text, refused, 0.0)
-        }
-        Seconds::Of(seconds) => {
-            let passed = words::expect(text, nanos.cursor, 0);
-            floats::expect(text, passed, seconds)
-        }
+        Seconds::Refused(refusal) => scores::expect_refused(text, nanos.cursor, refusal),
+        Seconds::Of(seconds) => scores::expect_value(text, nanos.cursor, seconds),
     }
 }

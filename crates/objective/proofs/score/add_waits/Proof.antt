@@ -5,7 +5,7 @@ use mathlib.Core.List.{foldl}
 use mathlib.Core.Option.{Option·map}
 use native.Mathlib.Omega.{arith}
 use lib.Ieee.{Float}
-use lib.ListN.{length, take, drop, getD}
+use lib.ListN.{length, take, drop}
 use Rattle.base.proofs.Arrays.{unmapped}
 use Rattle.base.proofs.Loops.{fold-on-of, fold-end-of}
 use Rattle.queue.specs.Time.{secondsOf}

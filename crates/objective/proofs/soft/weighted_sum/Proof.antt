@@ -1,6 +1,6 @@
 -- `soft::weighted_sum` meets its contract: the sum so far with the rest of the objectives makes the whole sum.
 use Prim.Native.Nat.{_-_, _≤_}
-use mathlib.Core.Path.{_≡_, refl, sym, ap, _∙_}
+use mathlib.Core.Path.{_≡_, sym, ap, _∙_}
 use mathlib.Core.List.{foldl}
 use native.Mathlib.Omega.{arith}
 use lib.Ieee.{nan}

@@ -1,8 +1,7 @@
 -- `SoftObjective::value` meets its contract: one law for each of its returns.
-use mathlib.Core.Path.{ap, sym, _∙_}
+use mathlib.Core.Path.{sym, _∙_}
 use Rattle.roster.specs.Roster.{ofRatings}
 use Rattle.matchmaker.specs.Quality.{matchOf}
-use Rattle.objective.specs.Soft.{softValue}
 use Rattle.objective.proofs.Laws.{value-overfull, value-roster, value-given}
 use borrow.Author.Needs.{needs}
 use Rattle.objective.proofs.soft.SoftObjective.value.Statement.{statement}

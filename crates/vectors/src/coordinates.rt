@@ -1,0 +1,33 @@
+// Objective vectors, as skill role latency party wait utilization.
+use crate::floats;
+use crate::words;
+use objective::pareto;
+use pareto::MatchObjectiveVector;
+use words::Cursor;
+
+pub struct ReadVector {
+    pub vector: MatchObjectiveVector,
+    pub cursor: Cursor,
+}
+
+pub fn vector(text: &[u8], from: Cursor) -> ReadVector {
+    let skill = words::next(text, from);
+    let role = words::next(text, skill.cursor);
+    let latency = words::next(text, role.cursor);
+    let party = words::next(text, latency.cursor);
+    let wait = words::next(text, party.cursor);
+    let utilization = words::next(text, wait.cursor);
+    let vector = MatchObjectiveVector {
+        skill: floats::float(skill.value),
+        role: floats::float(role.value),
+        latency: floats::float(latency.value),
+        party: floats::float(party.value),
+        wait: floats::float(wait.value),
+        utilization: floats::float(utilization.value),
+    };
+    let cursor = utilization.cursor;
+    ReadVector {
+        vector: vector,
+        cursor: cursor,
+    }
+}

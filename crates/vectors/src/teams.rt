@@ -1,0 +1,54 @@
+// Teams, as n and n players, and matches, as two teams.
+use crate::lists;
+use crate::words;
+use matchmaker::ProposedMatch;
+use matchmaker::Team;
+use words::Cursor;
+
+struct ReadTeam {
+    team: Team,
+    cursor: Cursor,
+}
+
+pub struct ReadMatch {
+    pub proposed: ProposedMatch,
+    pub cursor: Cursor,
+}
+
+// A team, of which a length above 8 stands alone.
+fn team(text: &[u8], from: Cursor) -> ReadTeam {
+    let mut players = [0u64; 8];
+    let len = words::next(text, from);
+    let n = len.value as usize;
+    let cursor = len.cursor;
+    if 8 < n {
+        return ReadTeam {
+            team: Team {
+                players: players,
+                len: n,
+            },
+            cursor: cursor,
+        };
+    }
+    let listed = lists::numbers(text, from, &mut players);
+    let end = listed.cursor;
+    ReadTeam {
+        team: Team {
+            players: players,
+            len: n,
+        },
+        cursor: end,
+    }
+}
+
+pub fn proposed(text: &[u8], from: Cursor) -> ReadMatch {
+    let first = team(text, from);
+    let second = team(text, first.cursor);
+    let a = first.team;
+    let b = second.team;
+    let cursor = second.cursor;
+    ReadMatch {
+        proposed: ProposedMatch { a: a, b: b },
+        cursor: cursor,
+    }
+}
