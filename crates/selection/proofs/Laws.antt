@@ -1,0 +1,248 @@
+-- Laws of the four selections over plain lists: what a turn of each loop does, and one law for each answer.
+use Prim.Native.Nat.{ℕ, zero, suc, _+_, _*_, _≤_, _<_}
+use mathlib.Core.Path.{_≡_, refl, sym, ap, _∙_}
+use mathlib.Core.Bool.{Bool, true, false, cond}
+use mathlib.Core.List.{List, [], _∷_, _++_, map, foldl, append-nil, map-append}
+use native.Mathlib.Numerals.{add-one}
+use native.Mathlib.Omega.{arith}
+use borrow.Author.Tests.{ltb-false, lt-ltb, le-ltb, eq-eqb}
+use lib.Dec.{ltb, eqb}
+use lib.Ieee.{Float, nan, inf, fin, binary64, up, down, lt, le, eq, ne, isNan, neg, div, ofBits}
+use lib.ListN.{length, take, drop, getD, set, length-map}
+use lib.Seq.{append-snoc, length-take-le, take-suc, take-all}
+use Rattle.base.specs.Floats as F
+use Rattle.base.specs.Refusals.{Outcome, refused, gives, guarded, refusalNumber, checkedOf}
+use Rattle.base.specs.declared.Checked.{Checked}
+use Rattle.base.specs.declared.Checked.the-variants.{Passed, Refused}
+use Rattle.base.specs.declared.Refusal.{Refusal}
+use Rattle.base.specs.Lists.{seek, any, keep}
+use Rattle.base.specs.Ranking.{better, lastBest, insertBy, higher}
+use Rattle.base.proofs.Cases.{cases, never}
+use Rattle.base.proofs.Arrays.{peel, peeled, push}
+use Rattle.base.proofs.Checks.{guard-refuses, guard-passes}
+use Rattle.ranking.specs.declared.Ranked.{Ranked}
+use Rattle.ranking.specs.Order.{ranked, scoreOf, fallen}
+use Rattle.ranking.proofs.Laws.{length-inserted}
+use Rattle.roster.specs.Roster.{Roster}
+use Rattle.matchmaker.specs.declared.ProposedMatch.{ProposedMatch}
+use Rattle.matchmaker.specs.Quality.{matchOf, overfull}
+use Rattle.objective.specs.declared.soft.SoftObjective.{SoftObjective}
+use Rattle.selection.specs.declared.lexicographic.Candidate.{Candidate}
+use Rattle.selection.specs.Selection.{Candidates, tooMuch, numbered, bestOf, firstAtLeast, unrankable, Kept, placed, nearBest, narrowed}
+use Rattle.selection.specs.Steps.{keptOf}
+
+-- ---- for base
+
+module _ {A B : Type 0} (f : A → B) where
+  -- to keep of what f makes is to keep first
+  pub keep-map : (p : B → Bool) (xs : List A) → map f (keep (λ x. p (f x)) xs) ≡ keep p (map f xs)
+  unfolding keep
+  keep-map p [] = refl
+  keep-map p (x ∷ xs) = cases (p (f x)) (λ t. rw t (ap (λ (r : List B). f x ∷ r) (keep-map p xs))) (λ k. rw k (keep-map p xs))
+
+  -- p holds of something that f makes where it does of what it is made of
+  pub any-map : (p : B → Bool) (xs : List A) → any (λ x. p (f x)) xs ≡ any p (map f xs)
+  unfolding seek
+  any-map p [] = refl
+  any-map p (x ∷ xs) = ap (cond (p (f x)) true) (any-map p xs)
+
+  -- a fold over what f makes
+  pub fold-map : {C : Type 0} (g : C → B → C) (c : C) (xs : List A) → foldl (λ (r : C) (x : A). g r (f x)) c xs ≡ foldl g c (map f xs)
+  fold-map g c [] = refl
+  fold-map g c (x ∷ xs) = fold-map g (g c (f x)) xs
+
+  -- the first n of what f makes
+  pub take-map : (n : ℕ) (xs : List A) → take n (map f xs) ≡ map f (take n xs)
+  take-map zero xs = refl
+  take-map (suc n) [] = refl
+  take-map (suc n) (x ∷ xs) = ap (λ (r : List B). f x ∷ r) (take-map n xs)
+
+  -- an array filled with what f makes of another's elements: one more
+  pub fill-on : (es : List A) (out : List B) (i : ℕ) (d : A) {y : B} → i < length es → i < length out → take i out ≡ map f (take i es) → y ≡ f (getD es i d) → take (i + 1) (set out i y) ≡ map f (take (i + 1) es)
+  fill-on es out i d {y} h room inv e =
+      push out i y room ∙ rw (inv, e, add-one i, take-suc es i d h) (sym (map-append f (take i es) (getD es i d ∷ [])))
+
+  -- and one that is filled to its end holds the first n for every n
+  pub filled : (es : List A) (out : List B) (m n : ℕ) → length es ≡ m → length out ≡ m → take m out ≡ map f (take m es) → take n out ≡ map f (take n es)
+  filled es out m n l k inv =
+      let w : out ≡ map f es = sym (take-all m out (omega arith)) ∙ inv ∙ ap (map f) (take-all m es (omega arith)) in
+      rw w (take-map n es)
+
+-- nothing is left to fold at n: `fold-end-of`, without a default element to name
+pub fold-over : {A B : Type 0} (f : B → A → B) (es : List A) (n i : ℕ) → n ≤ length es → (b : B) → n ≤ i → i ≤ n → foldl f b (drop i (take n es)) ≡ b
+fold-over f es n i fits b h k = rw (peeled es n i fits h k)
+
+-- a float is unequal to itself just where it is NaN
+pub unlike-itself : (x : Float) → ne x x ≡ isNan x
+unfolding ne eq isNan
+unlike-itself nan = refl
+unlike-itself (inf true) = refl
+unlike-itself (inf false) = refl
+unlike-itself (fin true m e) = rw (eq-eqb (m * up e * down e) (m * up e * down e) refl)
+unlike-itself (fin false m e) = rw (eq-eqb (m * up e * down e) (m * up e * down e) refl)
+
+-- a check's first refusal stands before the others
+module _ {A : Type 0} (t : Bool) (o : Outcome Unit) (v : Outcome A) where
+  first-refused : guarded (cond t (refused 1) o) v ≡ cond t (refused 1) (guarded o v)
+  first-refused = cases t (λ y. rw y) (λ n. rw n)
+
+  -- where the check refuses, so does the answer
+  pub answer-refused : (k : Checked) {s : Outcome A} {x : Refusal} → k ≡ Refused x → checkedOf k ≡ cond t (refused 1) o → s ≡ refused (refusalNumber x) → s ≡ cond t (refused 1) (guarded o v)
+  answer-refused k e h a = a ∙ guard-refuses v k e h ∙ first-refused
+
+  -- where it passes, the answer is what comes behind it
+  pub answer-given : (k : Checked) {s : Outcome A} → k ≡ Passed → checkedOf k ≡ cond t (refused 1) o → s ≡ v → s ≡ cond t (refused 1) (guarded o v)
+  answer-given k e h a = a ∙ guard-passes v k e h ∙ first-refused
+
+-- ---- the check, and refusal 5
+
+-- a check that passes tells that there are no more than 64 candidates and 8 objectives
+pub passed-fits : (c : Candidates) (m : ℕ) (o : Outcome Unit) (k : Checked) → k ≡ Passed → checkedOf k ≡ cond (tooMuch c m) (refused 1) o → (c .size ≤ 64) × (m ≤ 8)
+passed-fits c m o k e h =
+    cases (ltb 64 (c .size)) (λ y. never (no (rw (e, y) at h)))
+    (λ f. cases (any overfull (c .matches)) (λ y. never (no (rw (e, f, y) at h)))
+    (λ g. cases (ltb 8 m) (λ y. never (no (rw (e, f, g, y) at h))) (λ l. (ltb-false 64 (c .size) f, ltb-false 8 m l))))
+  where
+    no : {i : ℕ} {u : Unit} → _≡_ {A = Outcome Unit} (gives u) (refused i) → _≡_ {A = ℕ} 0 1
+    no p = cc
+
+module _ (es : List Float) (n : ℕ) (fits : n ≤ length es) where
+  -- one score is ranked whatever it is
+  pub rankable-few : n ≤ 1 → false ≡ unrankable (take n es)
+  rankable-few h = rw (length-take-le n es fits, le-ltb 1 n h)
+
+  -- of two or more none may be NaN
+  pub rankable-many : {t : Bool} → 1 < n → t ≡ any isNan (take n es) → t ≡ unrankable (take n es)
+  rankable-many h e = rw (length-take-le n es fits, lt-ltb 1 n h) e
+
+-- what a ranking answers: refusal 5, or what f makes of the scores
+abbrev pub rankedRule : (List Float → List ℕ) → List Float → Outcome (List ℕ)
+rankedRule f scores = cond (unrankable scores) (refused 5) (gives (f scores))
+
+-- behind a check that passes, `scores` being the first of an array that hold them
+module _ (t : Bool) (o : Outcome Unit) (f : List Float → List ℕ) {held scores : List Float} (same : held ≡ scores) (k : Checked) (e : k ≡ Passed) (h : checkedOf k ≡ cond t (refused 1) o) where
+  -- scores that cannot be ranked: 5
+  pub ranked-refused : {s : Outcome (List ℕ)} → unrankable held ≡ true → s ≡ refused 5 → s ≡ cond t (refused 1) (guarded o (rankedRule f scores))
+  ranked-refused u a =
+      let q : refused 5 ≡ rankedRule f held = rw u in
+      answer-given t o (rankedRule f scores) k e h (a ∙ q ∙ ap (rankedRule f) same)
+
+  -- any others are
+  pub ranked-given : {s : Outcome (List ℕ)} → unrankable held ≡ false → s ≡ gives (f held) → s ≡ cond t (refused 1) (guarded o (rankedRule f scores))
+  ranked-given u a =
+      let q : gives (f held) ≡ rankedRule f held = rw u in
+      answer-given t o (rankedRule f scores) k e h (a ∙ q ∙ ap (rankedRule f) same)
+
+-- ---- numbered scores
+
+module _ (es : List Float) (n i : ℕ) (fits : n ≤ length es) where
+  -- what is left at i begins with the score at i
+  numbered-on : i < n → numbered i (drop i (take n es)) ≡ ranked i (getD es i nan) ∷ numbered (i + 1) (drop (i + 1) (take n es))
+  unfolding numbered
+  numbered-on h = rw (peel es n i nan fits h, add-one i)
+
+  -- nothing is left at n
+  numbered-end : n ≤ i → i ≤ n → numbered i (drop i (take n es)) ≡ []
+  unfolding numbered
+  numbered-end h k = rw (peeled es n i fits h k)
+
+  -- a score that reaches the minimum is the first
+  pub first-hit : (m : Float) → firstAtLeast m (numbered 0 (take n es)) ≡ firstAtLeast m (numbered i (drop i (take n es))) → i < n → le m (getD es i nan) ≡ true → i ∷ [] ≡ firstAtLeast m (numbered 0 (take n es))
+  unfolding seek
+  first-hit m inv h t = sym (inv ∙ rw (numbered-on h, t))
+
+  -- any other leaves it to the rest
+  pub first-on : (m : Float) → firstAtLeast m (numbered 0 (take n es)) ≡ firstAtLeast m (numbered i (drop i (take n es))) → i < n → le m (getD es i nan) ≡ false → firstAtLeast m (numbered 0 (take n es)) ≡ firstAtLeast m (numbered (i + 1) (drop (i + 1) (take n es)))
+  unfolding seek
+  first-on m inv h t = inv ∙ rw (numbered-on h, t)
+
+  -- none reaches it
+  pub first-none : (m : Float) → firstAtLeast m (numbered 0 (take n es)) ≡ firstAtLeast m (numbered i (drop i (take n es))) → n ≤ i → i ≤ n → [] ≡ firstAtLeast m (numbered 0 (take n es))
+  unfolding seek
+  first-none m inv h k = sym (inv ∙ rw (numbered-end h k))
+
+  -- the best so far stays before a lower score
+  pub best-stays : {w : Ranked} (best : ℕ) → lastBest scoreOf (ranked best (getD es best nan)) (numbered i (drop i (take n es))) ≡ w → i < n → lt (getD es i nan) (getD es best nan) ≡ true → lastBest scoreOf (ranked best (getD es best nan)) (numbered (i + 1) (drop (i + 1) (take n es))) ≡ w
+  best-stays best inv h t =
+      let e : better scoreOf (ranked best (getD es best nan)) (ranked i (getD es i nan)) ≡ ranked best (getD es best nan) = rw t in
+      sym (ap (λ (x : Ranked). lastBest scoreOf x (numbered (i + 1) (drop (i + 1) (take n es)))) e) ∙ (rw (numbered-on h) at inv)
+
+  -- and gives way to any other
+  pub best-turns : {w : Ranked} (best : ℕ) → lastBest scoreOf (ranked best (getD es best nan)) (numbered i (drop i (take n es))) ≡ w → i < n → lt (getD es i nan) (getD es best nan) ≡ false → lastBest scoreOf (ranked i (getD es i nan)) (numbered (i + 1) (drop (i + 1) (take n es))) ≡ w
+  best-turns best inv h t =
+      let e : better scoreOf (ranked best (getD es best nan)) (ranked i (getD es i nan)) ≡ ranked i (getD es i nan) = rw t in
+      sym (ap (λ (x : Ranked). lastBest scoreOf x (numbered (i + 1) (drop (i + 1) (take n es)))) e) ∙ (rw (numbered-on h) at inv)
+
+  -- one more score goes to its place in the order so far
+  pub order-on : {w : List Ranked} (xs : List Ranked) {ys : List Ranked} → foldl (λ (sorted : List Ranked) x. insertBy (higher scoreOf) x sorted) xs (numbered i (drop i (take n es))) ≡ w → i < n → n ≤ 64 → length xs ≡ i → ys ≡ fallen xs (ranked i (getD es i nan)) → (length ys ≡ i + 1) × (foldl (λ (sorted : List Ranked) x. insertBy (higher scoreOf) x sorted) ys (numbered (i + 1) (drop (i + 1) (take n es))) ≡ w)
+  order-on xs {ys} inv h room l e =
+      let g : ys ≡ insertBy (higher scoreOf) (ranked i (getD es i nan)) xs = rw (lt-ltb (length xs) 64 (omega arith)) at e in
+      (ap length g ∙ length-inserted (higher scoreOf) (ranked i (getD es i nan)) xs ∙ omega arith, rw g (rw (numbered-on h) at inv))
+
+  -- and the order stands at the end
+  pub order-end : {w : List Ranked} (xs : List Ranked) → foldl (λ (sorted : List Ranked) x. insertBy (higher scoreOf) x sorted) xs (numbered i (drop i (take n es))) ≡ w → n ≤ i → i ≤ n → xs ≡ w
+  order-end xs inv h k = rw (numbered-end h k) at inv
+
+-- the best of all is the last of the best
+pub best-end : (es : List Float) (n i best : ℕ) → n ≤ length es → lastBest scoreOf (ranked best (getD es best nan)) (numbered i (drop i (take n es))) ≡ lastBest scoreOf (ranked 0 (getD es 0 nan)) (numbered 1 (drop 1 (take n es))) → 0 < n → n ≤ i → i ≤ n → best ∷ [] ≡ bestOf (numbered 0 (take n es))
+best-end es n i best fits inv some h k =
+    let e : ranked best (getD es best nan) ≡ lastBest scoreOf (ranked 0 (getD es 0 nan)) (numbered 1 (drop 1 (take n es))) = rw (numbered-end es n i fits h k) at inv in
+    let w : numbered 0 (take n es) ≡ ranked 0 (getD es 0 nan) ∷ numbered 1 (drop 1 (take n es)) = numbered-on es n 0 fits some in
+    ap (λ (x : Ranked). x .place ∷ []) e ∙ ap bestOf (sym w)
+
+-- there is no best of none
+pub best-none : (es : List Float) (n : ℕ) → n ≡ 0 → [] ≡ bestOf (numbered 0 (take n es))
+unfolding numbered
+best-none es n e = rw e
+
+-- ---- the shortlist
+
+-- as many are listed as the length states
+pub listed-length : (es : List Candidate) (n : ℕ) → n ≤ length es → length (map keptOf (take n es)) ≡ n
+listed-length es n fits = length-map (take n es) keptOf ∙ length-take-le n es fits
+
+-- minus infinity, as the code writes it
+pub lowest : div binary64 (neg F.one) F.zero ≡ inf true
+unfolding div neg ofBits
+lowest = refl
+
+-- all candidates, each with its place
+module _ (es : List ProposedMatch) (n i : ℕ) (fits : n ≤ length es) (out : List Candidate) {w : List Kept} (inv : map keptOf (take i out) ++ placed i (map matchOf (drop i (take n es))) ≡ w) where
+  pub listed-on : (d : ProposedMatch) → i < length out → i < n → map keptOf (take (i + 1) (set out i (record { place = i; proposed = getD es i d }))) ++ placed (i + 1) (map matchOf (drop (i + 1) (take n es))) ≡ w
+  unfolding placed
+  listed-on d room h =
+      let x : Candidate = record { place = i; proposed = getD es i d } in
+      let m : map keptOf (take i out ++ (x ∷ [])) ≡ map keptOf (take i out) ++ (keptOf x ∷ []) = map-append keptOf (take i out) (x ∷ []) in
+      rw (push out i x room, m, append-snoc (map keptOf (take i out)) (keptOf x) (placed (i + 1) (map matchOf (drop (i + 1) (take n es)))), add-one i)
+      (rw (peel es n i d fits h, add-one i) at inv)
+
+  pub listed-end : n ≤ i → i ≤ n → map keptOf (take i out) ≡ w
+  unfolding placed
+  listed-end h k = sym (append-nil (map keptOf (take i out))) ∙ (rw (peeled es n i fits h k) at inv)
+
+-- one objective after another
+module _ (r : Roster) where
+  narrowed-one : (o : SoftObjective) (os : List SoftObjective) (ks : List Kept) → eqb (length (nearBest r o ks)) 1 ≡ true → narrowed r (o ∷ os) ks ≡ nearBest r o ks
+  unfolding narrowed
+  narrowed-one o os ks t = rw t
+
+  narrowed-more : (o : SoftObjective) (os : List SoftObjective) (ks : List Kept) → eqb (length (nearBest r o ks)) 1 ≡ false → narrowed r (o ∷ os) ks ≡ narrowed r os (nearBest r o ks)
+  unfolding narrowed
+  narrowed-more o os ks t = rw t
+
+  module _ (os : List SoftObjective) (n i : ℕ) (fits : n ≤ length os) (ks : List Kept) {w : List Kept} (inv : narrowed r (drop i (take n os)) ks ≡ w) where
+    -- one is left: it is the answer
+    pub narrow-stops : (d : SoftObjective) {s : List Kept} → i < n → s ≡ nearBest r (getD os i d) ks → eqb (length s) 1 ≡ true → s ≡ w
+    narrow-stops d {s} h e t =
+        e ∙ sym (narrowed-one (getD os i d) (drop (i + 1) (take n os)) ks (sym (ap (λ (l : List Kept). eqb (length l) 1) e) ∙ t)) ∙ (rw (peel os n i d fits h) at inv)
+
+    -- else the next objective narrows what is left
+    pub narrow-on : (d : SoftObjective) {s : List Kept} → i < n → s ≡ nearBest r (getD os i d) ks → eqb (length s) 1 ≡ false → narrowed r (drop (i + 1) (take n os)) s ≡ w
+    narrow-on d {s} h e t =
+        ap (narrowed r (drop (i + 1) (take n os))) e
+        ∙ sym (narrowed-more (getD os i d) (drop (i + 1) (take n os)) ks (sym (ap (λ (l : List Kept). eqb (length l) 1) e) ∙ t)) ∙ (rw (peel os n i d fits h) at inv)
+
+    -- no objective is left
+    pub narrow-end : n ≤ i → i ≤ n → ks ≡ w
+    unfolding narrowed
+    narrow-end h k = rw (peeled os n i fits h k) at inv
