@@ -1,1 +1,3 @@
 pub mod Softs
+pub mod Maps
+pub mod Choices

@@ -1,3 +1,5 @@
 pub mod Numbers
 pub mod Queues
 pub mod Scores
+pub mod Rules
+pub mod Selections

@@ -9,3 +9,9 @@ pub mod rosters;
 
 // Quality, scores, soft objectives and objective vectors.
 pub mod scores;
+
+// Constraints and policy.
+pub mod rules;
+
+// The four selections.
+pub mod selections;

@@ -34,7 +34,7 @@ pub struct SoftObjectives {
 }
 
 // A score in numbers.
-fn in_numbers(score: Score) -> Scored
+pub(crate) fn in_numbers(score: Score) -> Scored
     ensures { λ r. ⌜ r ≡ scoredNumbers (scoreGiven score) ⌝ }
 {
     match score {
@@ -74,7 +74,7 @@ impl SoftObjectives {
     }
 
     // Is a code among the first `len` no kind?
-    fn has_no_kind(self) -> bool
+    pub(crate) fn has_no_kind(self) -> bool
         ensures { λ r. ⌜ r ≡ any isNoKind (take (self .len) (self .kinds)) ⌝ }
     {
         let kinds = self.kinds;
@@ -90,7 +90,7 @@ impl SoftObjectives {
     }
 
     // All eight, as objectives.
-    fn objectives(self) -> [SoftObjective; 8]
+    pub(crate) fn objectives(self) -> [SoftObjective; 8]
         ensures { λ r. ⌜ r ≡ softsOf (self .kinds) (self .weights) ⌝ }
     {
         let kinds = self.kinds;

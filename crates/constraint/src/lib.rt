@@ -24,6 +24,7 @@ pub mod teams;
 pub mod verdicts;
 
 // Which kinds of constraint a call brings.
+#[repr(C)]
 pub struct Brought {
     pub sizes: bool,
     pub roles: bool,

@@ -16,12 +16,14 @@ use matchmaker::ProposedMatch;
 use matchmaker::Team;
 
 // Two regions that may meet.
+#[repr(C)]
 pub struct RegionPair {
     pub first: u8,
     pub second: u8,
 }
 
 // Only the first `count` pairs may meet, either way round.
+#[repr(C)]
 pub struct RegionConstraint {
     pub pairs: [RegionPair; 16],
     pub count: usize,

@@ -7,6 +7,7 @@ use crate::verdicts::Verdict;
 use base::Refusal;
 use matchmaker::ProposedMatch;
 
+#[repr(C)]
 pub struct TeamSizeConstraint {
     pub a: usize,
     pub b: usize,

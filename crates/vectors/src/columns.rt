@@ -37,3 +37,35 @@ pub fn of_floats(text: &[u8], from: Cursor, out: &mut [f64]) -> Listed
     }
     lists::of_floats(text, from, out)
 }
+
+// Words below 2^32.
+pub fn halves(text: &[u8], from: Cursor, out: &mut [u32]) -> Listed
+    ensures { λ r. ⌜ Counts (r .len) (now (out .exit)) ⌝ }
+{
+    let read = words::next(text, from);
+    let cursor = read.cursor;
+    let rows = out.len();
+    if read.value as usize == rows {
+        return Listed {
+            len: rows,
+            cursor: cursor,
+        };
+    }
+    lists::halves(text, from, out)
+}
+
+// Words below 256.
+pub fn bytes(text: &[u8], from: Cursor, out: &mut [u8]) -> Listed
+    ensures { λ r. ⌜ Counts (r .len) (now (out .exit)) ⌝ }
+{
+    let read = words::next(text, from);
+    let cursor = read.cursor;
+    let rows = out.len();
+    if read.value as usize == rows {
+        return Listed {
+            len: rows,
+            cursor: cursor,
+        };
+    }
+    lists::bytes(text, from, out)
+}

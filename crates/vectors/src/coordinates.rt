@@ -3,6 +3,7 @@ use crate::floats;
 use crate::words;
 use objective::pareto;
 use pareto::MatchObjectiveVector;
+use pareto::ObjectiveWeights;
 use words::Cursor;
 
 pub struct ReadVector {
@@ -29,5 +30,17 @@ pub fn vector(text: &[u8], from: Cursor) -> ReadVector {
     ReadVector {
         vector: vector,
         cursor: cursor,
+    }
+}
+
+// Weights are read as a vector.
+pub fn as_weights(vector: MatchObjectiveVector) -> ObjectiveWeights {
+    ObjectiveWeights {
+        skill: vector.skill,
+        role: vector.role,
+        latency: vector.latency,
+        party: vector.party,
+        wait: vector.wait,
+        utilization: vector.utilization,
     }
 }

@@ -5,16 +5,28 @@ use words::Cursor;
 
 mod as_secs_f64;
 mod check_roster;
+mod constraints;
 mod dominates;
 mod duration_since;
 mod enqueue;
+mod greedy;
+mod latency;
+mod lexicographic;
 mod match_quality;
 mod match_score;
+mod parties;
+mod policy_score;
+mod regions;
 mod remove;
 mod remove_batch;
+mod roles;
 mod scalarize;
+mod sizes;
 mod soft_score;
+mod threshold;
+mod validate;
 mod waiting_time;
+mod weighted;
 
 pub fn write_name(code: u64) -> bool {
     match code {
@@ -30,11 +42,23 @@ pub fn write_name(code: u64) -> bool {
         10 => io::write_all(1, b"soft_score"),
         11 => io::write_all(1, b"scalarize"),
         12 => io::write_all(1, b"dominates"),
+        13 => io::write_all(1, b"sizes"),
+        14 => io::write_all(1, b"roles"),
+        15 => io::write_all(1, b"parties"),
+        16 => io::write_all(1, b"latency"),
+        17 => io::write_all(1, b"regions"),
+        18 => io::write_all(1, b"constraints"),
+        19 => io::write_all(1, b"validate"),
+        20 => io::write_all(1, b"policy_score"),
+        21 => io::write_all(1, b"greedy"),
+        22 => io::write_all(1, b"threshold"),
+        23 => io::write_all(1, b"lexicographic"),
+        24 => io::write_all(1, b"weighted"),
         _ => write_unknown(code),
     }
 }
 
-// `code-13`, or `other` for 0, where lines are counted whose code can't be read or is 32 or more.
+// `code-25`, or `other` for 0, where lines are counted whose code can't be read or is 32 or more.
 fn write_unknown(code: u64) -> bool {
     if code == 0 {
         return io::write_all(1, b"other");
@@ -57,6 +81,18 @@ pub fn replay(text: &[u8], code: u64, inputs: Cursor) -> Cursor {
         10 => soft_score::replay(text, inputs),
         11 => scalarize::replay(text, inputs),
         12 => dominates::replay(text, inputs),
+        13 => sizes::replay(text, inputs),
+        14 => roles::replay(text, inputs),
+        15 => parties::replay(text, inputs),
+        16 => latency::replay(text, inputs),
+        17 => regions::replay(text, inputs),
+        18 => constraints::replay(text, inputs),
+        19 => validate::replay(text, inputs),
+        20 => policy_score::replay(text, inputs),
+        21 => greedy::replay(text, inputs),
+        22 => threshold::replay(text, inputs),
+        23 => lexicographic::replay(text, inputs),
+        24 => weighted::replay(text, inputs),
         _ => words::checked(inputs, false),
     }
 }

@@ -22,11 +22,32 @@ mod teams;
 // Objective vectors of a line.
 mod coordinates;
 
+// Soft objectives of a line.
+mod objectives;
+
+// Role requirements of a line.
+mod requirements;
+
+// Pairs of regions of a line.
+mod pairs;
+
+// Constraints of a line.
+mod constraints;
+
+// Candidates of a line.
+mod candidates;
+
 // Refusals of a line.
 mod refusals;
 
 // Scores of a line.
 mod scores;
+
+// Verdicts of a line.
+mod verdicts;
+
+// Chosen places of a line.
+mod places;
 
 // Counts and what is written.
 mod tally;

@@ -5,9 +5,9 @@ use matchmaker::ProposedMatch;
 use matchmaker::Team;
 use words::Cursor;
 
-struct ReadTeam {
-    team: Team,
-    cursor: Cursor,
+pub struct ReadTeam {
+    pub team: Team,
+    pub cursor: Cursor,
 }
 
 pub struct ReadMatch {
@@ -16,7 +16,7 @@ pub struct ReadMatch {
 }
 
 // A team, of which a length above 8 stands alone.
-fn team(text: &[u8], from: Cursor) -> ReadTeam {
+pub fn team(text: &[u8], from: Cursor) -> ReadTeam {
     let mut players = [0u64; 8];
     let len = words::next(text, from);
     let n = len.value as usize;

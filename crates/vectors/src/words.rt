@@ -14,6 +14,11 @@ pub struct Word {
     pub cursor: Cursor,
 }
 
+pub struct Truth {
+    pub value: bool,
+    pub cursor: Cursor,
+}
+
 // The byte at `at`, a line end where there is none.
 fn byte(text: &[u8], at: usize) -> u8 {
     if at < text.len() {
@@ -145,6 +150,17 @@ pub fn expect(text: &[u8], cursor: Cursor, value: u64) -> Cursor {
 pub fn expect_both(text: &[u8], cursor: Cursor, a: u64, b: u64) -> Cursor {
     let first = expect(text, cursor, a);
     expect(text, first, b)
+}
+
+// The next word as a truth, which has to be 0 or 1.
+pub fn next_truth(text: &[u8], cursor: Cursor) -> Truth {
+    let read = next(text, cursor);
+    let known = read.value < 2;
+    let end = checked(read.cursor, known);
+    Truth {
+        value: read.value == 1,
+        cursor: end,
+    }
 }
 
 // The word as a `u32`, whose upper half is left out.

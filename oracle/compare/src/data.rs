@@ -1,5 +1,9 @@
 //! What calls bring besides queues.
 
+mod rules;
+
+pub use rules::*;
+
 use std::fmt::{Debug, Formatter, Result};
 
 /// The six columns that stand for the Rust's `World`; their lengths may differ.

@@ -2,8 +2,10 @@
 //!
 //! Each irregularity is rare, so that most cases reach the Rust.
 
+mod rules;
 mod scores;
 
+pub use rules::*;
 pub use scores::*;
 
 use crate::data::Roster;

@@ -28,6 +28,10 @@ pub trait Function {
     fn refused(case: &Self::Case) -> Self::Answer;
     /// What the unchanged Rust answers; asked only where the model does not refuse.
     fn rust(case: &Self::Case) -> Self::Answer;
+    /// What the model answers where the Rust panics; none where only the absence of a refusal is known.
+    fn model(_: &Self::Case) -> Option<Self::Answer> {
+        None
+    }
     fn library(case: &Self::Case) -> (u8, Self::Answer);
 }
 
@@ -120,7 +124,10 @@ fn expected<F: Function>(case: &F::Case) -> (Source, Option<F::Answer>) {
         0 => match caught(|| F::rust(case)) {
             Some(answer) if F::HAS_RUST => (Source::Rust, Some(answer)),
             Some(answer) => (Source::Model, Some(answer)),
-            None => (Source::Panic, None),
+            None => match F::model(case) {
+                Some(answer) => (Source::Model, Some(answer)),
+                None => (Source::Panic, None),
+            },
         },
         number => (Source::Refusal(number), Some(F::refused(case))),
     }
@@ -158,7 +165,7 @@ pub fn caught<T>(run: impl FnOnce() -> T) -> Option<T> {
 mod tests {
     use super::*;
 
-    /// Refuses 3 with 9; its Rust doubles and panics at 5; its library is wrong at 7 and 8.
+    /// Refuses 3 with 9; its Rust doubles and panics at 5 and 6, where the model knows 6 alone; its library is wrong at 7 and 8.
     struct Doubling;
 
     thread_local! {
@@ -180,8 +187,11 @@ mod tests {
             *case
         }
         fn rust(case: &u64) -> u64 {
-            assert_ne!(*case, 5);
+            assert!(*case != 5 && *case != 6);
             case * 2
+        }
+        fn model(case: &u64) -> Option<u64> {
+            (*case == 6).then_some(12)
         }
         fn library(case: &u64) -> (u8, u64) {
             match case {
@@ -232,6 +242,13 @@ mod tests {
     fn panics_are_counted_apart() {
         assert_eq!(verdict(5).source, Source::Panic);
         assert!(verdict(5).difference.is_none());
+    }
+
+    #[test]
+    fn the_model_stands_in_for_a_panic() {
+        assert_eq!(verdict(6).source, Source::Model);
+        assert!(verdict(6).difference.is_none());
+        assert_eq!(line(6).as_deref(), Some("63 6 0 c"));
     }
 
     #[test]

@@ -1,5 +1,9 @@
 //! Which refusal each call must get, written from document 01 and its readings alone. 0 is none.
 
+mod rules;
+
+pub use rules::*;
+
 use crate::data::{Columns, Roster};
 use yilgashe_sys::{ProposedMatch, Queue, QueueEntry, SoftObjectives};
 

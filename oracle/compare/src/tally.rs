@@ -7,6 +7,7 @@ use std::collections::BTreeMap;
 pub struct Tally {
     pub cases: usize,
     compared: usize,
+    modelled: usize,
     panics: usize,
     pub differences: usize,
     refused: BTreeMap<u8, usize>,
@@ -17,7 +18,7 @@ impl Tally {
         self.cases += 1;
         match verdict.source {
             Source::Rust => self.compared += 1,
-            Source::Model => {}
+            Source::Model => self.modelled += 1,
             Source::Panic => self.panics += 1,
             Source::Refusal(number) => *self.refused.entry(number).or_default() += 1,
         }
@@ -28,10 +29,11 @@ impl Tally {
 
     pub fn line(&self, family: &str, name: &str) -> String {
         format!(
-            "{:24} {:>9} {:>9} {:>7} {:>12}  {}",
+            "{:24} {:>9} {:>9} {:>10} {:>7} {:>12}  {}",
             format!("{family} {name}"),
             self.cases,
             self.compared,
+            self.modelled,
             self.panics,
             self.differences,
             self.refusals()
@@ -53,7 +55,7 @@ impl Tally {
 
 pub fn heading() -> String {
     format!(
-        "{:24} {:>9} {:>9} {:>7} {:>12}  refused",
-        "function", "cases", "with Rust", "panics", "differences"
+        "{:24} {:>9} {:>9} {:>10} {:>7} {:>12}  refused",
+        "function", "cases", "with Rust", "with model", "panics", "differences"
     )
 }

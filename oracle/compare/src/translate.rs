@@ -1,5 +1,9 @@
 //! From the library's plain numbers to the Rust's types, and back.
 
+mod rules;
+
+pub use rules::*;
+
 use crate::data::{Columns, Roster};
 use crate::model::NO_RECORD;
 use matchlab_core::player::{

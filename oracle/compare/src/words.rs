@@ -1,5 +1,7 @@
 //! The words of stored answers: numbers in hex, one space between.
 
+mod rules;
+
 use crate::data::Columns;
 use crate::model::{QUEUE_LIMIT, ROSTER_LIMIT, TEAM_LIMIT};
 use yilgashe_sys::{MatchObjectiveVector, ProposedMatch, Queue, QueueEntry, Team};
@@ -60,7 +62,7 @@ impl Words {
     }
 
     /// How many, then each; a team over limit is its `len` alone.
-    fn team(&mut self, team: &Team) {
+    pub fn team(&mut self, team: &Team) {
         self.number(team.len as u64);
         if team.len <= TEAM_LIMIT {
             self.0.extend(team.seated());

@@ -362,3 +362,472 @@ mod scores {
         assert!(seen.iter().all(|&count| count > 50), "{seen:?}");
     }
 }
+
+/// Lines of constraints, policies and selections, their answers computed anew from document 01.
+mod rules {
+    use super::{Reader, lines};
+    use compare::same::Same;
+
+    type Teams = [Vec<u64>; 2];
+
+    /// So many items, or none where the list is just over its limit.
+    fn items<T>(line: &mut Reader, limit: u64, read: impl Fn(&mut Reader) -> T) -> Option<Vec<T>> {
+        match line.word() {
+            n if n == limit + 1 => None,
+            n => {
+                assert!(n <= limit);
+                Some((0..n).map(|_| read(line)).collect())
+            }
+        }
+    }
+
+    fn team(line: &mut Reader) -> Option<Vec<u64>> {
+        items(line, 8, Reader::word)
+    }
+
+    fn teams(line: &mut Reader) -> Option<Teams> {
+        let (a, b) = (team(line), team(line));
+        Some([a?, b?])
+    }
+
+    fn float(line: &mut Reader) -> f64 {
+        f64::from_bits(line.word())
+    }
+
+    /// Ids and the columns of a call.
+    struct Columns(Vec<Vec<u64>>);
+
+    /// None where one is over limit.
+    fn columns(line: &mut Reader, count: usize) -> Option<Columns> {
+        let read: Vec<Option<Vec<u64>>> =
+            (0..count).map(|_| items(line, 128, Reader::word)).collect();
+        read.into_iter().collect::<Option<_>>().map(Columns)
+    }
+
+    impl Columns {
+        fn bad(&self) -> bool {
+            let ids = &self.0[0];
+            let doubled = (0..ids.len()).any(|row| ids[..row].contains(&ids[row]));
+            doubled || self.0.iter().any(|column| column.len() != ids.len())
+        }
+
+        /// What stands in a column for each player who has a row.
+        fn of<'a>(&'a self, players: &'a [u64], column: usize) -> impl Iterator<Item = u64> + 'a {
+            let row = |player: &u64| self.0[0].iter().position(|id| id == player);
+            let rows = players.iter().filter_map(row);
+            rows.map(move |row| self.0[column][row])
+        }
+    }
+
+    struct Requirement {
+        role: u64,
+        least: u64,
+        most: Option<u64>,
+    }
+
+    type Requirements = Vec<Requirement>;
+    type Pairs = Vec<[u64; 2]>;
+
+    fn requirements(line: &mut Reader) -> Option<Requirements> {
+        items(line, 8, |line| {
+            let [role, least, bounded, most] = std::array::from_fn(|_| line.word());
+            assert!(bounded <= 1);
+            Requirement {
+                role,
+                least,
+                most: (bounded == 1).then_some(most),
+            }
+        })
+    }
+
+    fn pairs(line: &mut Reader) -> Option<Pairs> {
+        items(line, 16, |line| [line.word(), line.word()])
+    }
+
+    fn sizes(line: &mut Reader) -> [u64; 2] {
+        [line.word(), line.word()]
+    }
+
+    fn unknown(codes: &[u64]) -> bool {
+        codes.iter().any(|&code| code > 4)
+    }
+
+    /// 2 for too few, 3 for too many.
+    fn role_fault(wanted: &Requirement, players: &[u64], columns: &Columns, column: usize) -> u64 {
+        let having = columns.of(players, column);
+        let count = having.filter(|&role| role > 0 && role == wanted.role);
+        let count = count.count() as u64;
+        match wanted.most {
+            _ if count < wanted.least => 2,
+            Some(most) if count > most => 3,
+            _ => 0,
+        }
+    }
+
+    fn sized(teams: &Teams, sizes: [u64; 2]) -> bool {
+        (0..2).all(|side| teams[side].len() as u64 == sizes[side])
+    }
+
+    fn roles_met(wanted: &Requirements, teams: &Teams, columns: &Columns, column: usize) -> bool {
+        let players = teams.concat();
+        let mut faults = wanted
+            .iter()
+            .map(|w| role_fault(w, &players, columns, column));
+        faults.all(|fault| fault == 0)
+    }
+
+    fn parties_whole(teams: &Teams, columns: &Columns, column: usize) -> bool {
+        let players = teams.concat();
+        let parties: Vec<u64> = columns.of(&players, column).filter(|&p| p > 0).collect();
+        let mut rows = columns.0[0].iter().zip(&columns.0[column]);
+        rows.all(|(id, party)| !parties.contains(party) || players.contains(id))
+    }
+
+    fn above_zero(teams: &Teams, columns: &Columns, column: usize) -> bool {
+        let players = teams.concat();
+        let mut ratings = columns.of(&players, column).map(f64::from_bits);
+        ratings.all(|rating| rating > 0.0)
+    }
+
+    fn regions_allowed(allowed: &Pairs, [a, b]: &Teams, columns: &Columns, column: usize) -> bool {
+        let allows =
+            |a, b| a > 3 || b > 3 || allowed.contains(&[a, b]) || allowed.contains(&[b, a]);
+        let mut of_a = columns.of(a, column);
+        of_a.all(|of_a| columns.of(b, column).all(|of_b| allows(of_a, of_b)))
+    }
+
+    /// Reads refusal and verdict, the end of every such line.
+    fn judged(mut line: Reader, expected: Result<bool, u64>, seen: &mut [usize; 4]) {
+        let (refusal, answer) = (line.word(), line.word());
+        assert_eq!(refusal, expected.err().unwrap_or(0));
+        assert_eq!(answer, u64::from(expected.unwrap_or(false)));
+        seen[if refusal == 0 { answer } else { 1 + refusal } as usize] += 1;
+        line.end();
+    }
+
+    /// Both verdicts and both refusals were met often.
+    fn all_seen(seen: [usize; 4]) {
+        assert!(seen.iter().all(|&count| count > 3), "{seen:?}");
+    }
+
+    fn checked(teams: Option<Teams>, columns: Option<Columns>) -> Result<(Teams, Columns), u64> {
+        let (teams, columns) = teams.zip(columns).ok_or(1u64)?;
+        if columns.bad() {
+            return Err(2);
+        }
+        Ok((teams, columns))
+    }
+
+    #[test]
+    fn size_constraint() {
+        let mut seen = [0; 4];
+        for mut line in lines(13) {
+            let (sizes, teams) = (sizes(&mut line), teams(&mut line));
+            let teams = teams.filter(|_| sizes.iter().all(|&size| size <= 8));
+            let expected = teams.map(|teams| sized(&teams, sizes)).ok_or(1);
+            judged(line, expected, &mut seen);
+        }
+        assert!(seen[..3].iter().all(|&count| count > 10), "{seen:?}");
+    }
+
+    #[test]
+    fn role_constraint() {
+        let mut seen = [0; 4];
+        for mut line in lines(14) {
+            let (wanted, teams) = (requirements(&mut line), teams(&mut line));
+            let columns = columns(&mut line, 2);
+            let expected = wanted.ok_or(1).and_then(|wanted| {
+                let (teams, columns) = checked(teams, columns)?;
+                Ok(roles_met(&wanted, &teams, &columns, 1))
+            });
+            judged(line, expected, &mut seen);
+        }
+        all_seen(seen);
+    }
+
+    #[test]
+    fn party_and_latency_constraints() {
+        let (mut whole, mut above) = ([0; 4], [0; 4]);
+        for mut line in lines(15) {
+            let (teams, columns) = (teams(&mut line), columns(&mut line, 2));
+            let expected = checked(teams, columns);
+            let expected = expected.map(|(teams, columns)| parties_whole(&teams, &columns, 1));
+            judged(line, expected, &mut whole);
+        }
+        for mut line in lines(16) {
+            let (teams, columns) = (teams(&mut line), columns(&mut line, 2));
+            let expected = checked(teams, columns);
+            let expected = expected.map(|(teams, columns)| above_zero(&teams, &columns, 1));
+            judged(line, expected, &mut above);
+        }
+        all_seen(whole);
+        all_seen(above);
+    }
+
+    #[test]
+    fn region_constraint() {
+        let mut seen = [0; 4];
+        for mut line in lines(17) {
+            let (allowed, teams) = (pairs(&mut line), teams(&mut line));
+            let columns = columns(&mut line, 2);
+            let expected = allowed.ok_or(1).and_then(|allowed| {
+                let (teams, columns) = checked(teams, columns)?;
+                if unknown(&allowed.concat()) || unknown(&columns.0[1]) {
+                    return Err(2);
+                }
+                Ok(regions_allowed(&allowed, &teams, &columns, 1))
+            });
+            judged(line, expected, &mut seen);
+        }
+        all_seen(seen);
+    }
+
+    struct Constraints {
+        brought: [bool; 5],
+        sizes: [u64; 2],
+        roles: Option<Requirements>,
+        regions: Option<Pairs>,
+    }
+
+    fn constraints(line: &mut Reader) -> Constraints {
+        Constraints {
+            brought: std::array::from_fn(|_| line.word() == 1),
+            sizes: sizes(line),
+            roles: requirements(line),
+            regions: pairs(line),
+        }
+    }
+
+    /// Columns: ids, ratings, parties, roles, regions.
+    fn together(
+        constraints: Constraints,
+        teams: Option<Teams>,
+        columns: Option<Columns>,
+    ) -> Result<(bool, Teams, Columns), u64> {
+        let [sizes, roles, parties, latency, regions] = constraints.brought;
+        let wanted = if roles {
+            constraints.roles.ok_or(1u64)?
+        } else {
+            Vec::new()
+        };
+        let allowed = if regions {
+            constraints.regions.ok_or(1u64)?
+        } else {
+            Vec::new()
+        };
+        if sizes && constraints.sizes.iter().any(|&size| size > 8) {
+            return Err(1);
+        }
+        let (teams, columns) = checked(teams, columns)?;
+        if unknown(&allowed.concat()) || unknown(&columns.0[4]) {
+            return Err(2);
+        }
+        let satisfied = (!sizes || sized(&teams, constraints.sizes))
+            && roles_met(&wanted, &teams, &columns, 3)
+            && (!parties || parties_whole(&teams, &columns, 2))
+            && (!latency || above_zero(&teams, &columns, 1))
+            && (!regions || regions_allowed(&allowed, &teams, &columns, 4));
+        Ok((satisfied, teams, columns))
+    }
+
+    #[test]
+    fn constraints_together() {
+        let mut seen = [0; 4];
+        for mut line in lines(18) {
+            let (constraints, teams) = (constraints(&mut line), teams(&mut line));
+            let expected = together(constraints, teams, columns(&mut line, 5));
+            judged(line, expected.map(|(satisfied, ..)| satisfied), &mut seen);
+        }
+        all_seen(seen);
+    }
+
+    #[test]
+    fn validate() {
+        let mut seen = [0; 4];
+        for mut line in lines(19) {
+            let (size, wanted, team) = (line.word(), requirements(&mut line), team(&mut line));
+            let columns = columns(&mut line, 2);
+            let teams = team.filter(|_| size <= 8).map(|team| [team, Vec::new()]);
+            let expected = wanted.ok_or(1).and_then(|wanted| {
+                let ([team, _], columns) = checked(teams, columns)?;
+                if team.len() as u64 != size {
+                    return Ok((0, 1));
+                }
+                let faults = wanted.iter().map(|w| role_fault(w, &team, &columns, 1));
+                let first = (0..).zip(faults).find(|(_, fault)| *fault > 0);
+                Ok(first.unwrap_or((0, 0)))
+            });
+            let (refusal, place, fault) = (line.word(), line.word(), line.word());
+            assert_eq!(refusal, expected.err().unwrap_or(0));
+            assert_eq!((place, fault), expected.unwrap_or((0, 0)));
+            seen[fault as usize] += 1;
+            line.end();
+        }
+        assert!(seen.iter().all(|&count| count > 3), "{seen:?}");
+    }
+
+    fn average(players: &[u64], columns: &Columns) -> f64 {
+        let ratings = columns.of(players, 1).map(f64::from_bits);
+        ratings.fold(0.0, |sum, rating| sum + rating) / players.len().max(1) as f64
+    }
+
+    /// 1.0 minus the smaller, where NaN is never the smaller.
+    fn from_one(share: f64) -> f64 {
+        1.0 - if share < 1.0 { share } else { 1.0 }
+    }
+
+    fn quality([a, b]: &Teams, columns: &Columns) -> f64 {
+        from_one((average(a, columns) - average(b, columns)).abs() / 400.0)
+    }
+
+    type Objectives = Vec<(u64, f64)>;
+
+    /// None where a kind is unknown.
+    fn objectives(line: &mut Reader) -> Option<Objectives> {
+        let listed = items(line, 8, |line| (line.word(), float(line)));
+        let known = |listed: &Objectives| listed.iter().all(|(kind, _)| *kind <= 2);
+        listed.filter(known)
+    }
+
+    fn value(kind: u64, teams: &Teams, columns: &Columns) -> f64 {
+        match kind {
+            0 => quality(teams, columns),
+            1 => from_one(average(&teams.concat(), columns) / 200.0),
+            _ => 0.5,
+        }
+    }
+
+    fn score(objectives: &Objectives, teams: &Teams, columns: &Columns) -> f64 {
+        let listed = objectives.iter();
+        listed.fold(0.0, |sum, (kind, weight)| {
+            sum + weight * value(*kind, teams, columns)
+        })
+    }
+
+    #[test]
+    fn policy_score() {
+        let mut barred = 0;
+        for mut line in lines(20) {
+            let (constraints, objectives) = (constraints(&mut line), objectives(&mut line));
+            let (teams, columns) = (teams(&mut line), columns(&mut line, 5));
+            let expected = objectives.ok_or(1).and_then(|objectives| {
+                let (satisfied, teams, columns) = together(constraints, teams, columns)?;
+                let score = score(&objectives, &teams, &columns);
+                Ok(if satisfied { score } else { f64::NEG_INFINITY })
+            });
+            let (refusal, value) = (line.word(), float(&mut line));
+            assert_eq!(refusal, expected.err().unwrap_or(0));
+            assert!(value.same(&expected.unwrap_or(0.0)));
+            barred += usize::from(value == f64::NEG_INFINITY);
+            line.end();
+        }
+        assert!((30..200).contains(&barred), "{barred}");
+    }
+
+    type Candidates = Vec<Teams>;
+
+    /// None where there are too many or one has a team over limit.
+    fn candidates(line: &mut Reader) -> Option<Candidates> {
+        items(line, 64, teams)?.into_iter().collect()
+    }
+
+    fn ranked(
+        candidates: Option<Candidates>,
+        columns: Option<Columns>,
+    ) -> Result<(Candidates, Columns), u64> {
+        let (candidates, columns) = candidates.zip(columns).ok_or(1u64)?;
+        if columns.bad() {
+            return Err(2);
+        }
+        Ok((candidates, columns))
+    }
+
+    fn rankable(scores: &[f64]) -> Result<(), u64> {
+        let unranked = scores.len() > 1 && scores.iter().any(|score| score.is_nan());
+        if unranked { Err(5) } else { Ok(()) }
+    }
+
+    /// Reads refusal and places, the end of every such line.
+    fn selected(mut line: Reader, expected: Result<Vec<u64>, u64>, seen: &mut [usize; 6]) {
+        let (refusal, places) = (line.word(), line.list());
+        assert_eq!(refusal, *expected.as_ref().err().unwrap_or(&0));
+        assert_eq!(places, expected.unwrap_or_default());
+        seen[refusal as usize] += 1;
+        line.end();
+    }
+
+    #[test]
+    fn greedy_and_threshold() {
+        let (mut greedy, mut threshold) = ([0; 6], [0; 6]);
+        for code in [21, 22] {
+            for mut line in lines(code) {
+                let minimum = (code == 22).then(|| float(&mut line));
+                let objectives = objectives(&mut line);
+                let (candidates, columns) = (candidates(&mut line), columns(&mut line, 2));
+                let expected = objectives.ok_or(1).and_then(|objectives| {
+                    let (candidates, columns) = ranked(candidates, columns)?;
+                    let scores = candidates.iter().map(|c| score(&objectives, c, &columns));
+                    let scores: Vec<f64> = scores.collect();
+                    if let Some(minimum) = minimum {
+                        let first = scores.iter().position(|&score| score >= minimum);
+                        return Ok(first.map(|place| place as u64).into_iter().collect());
+                    }
+                    rankable(&scores)?;
+                    let beaten = |score: &f64| scores.iter().any(|other| other > score);
+                    let last = scores.iter().rposition(|score| !beaten(score));
+                    Ok(last.map(|place| place as u64).into_iter().collect())
+                });
+                let seen = if code == 21 {
+                    &mut greedy
+                } else {
+                    &mut threshold
+                };
+                selected(line, expected, seen);
+            }
+        }
+        assert!(greedy[5] > 5 && threshold[5] == 0);
+    }
+
+    #[test]
+    fn lexicographic() {
+        let mut seen = [0; 6];
+        for mut line in lines(23) {
+            let objectives = objectives(&mut line);
+            let (candidates, columns) = (candidates(&mut line), columns(&mut line, 2));
+            let expected = objectives.ok_or(1).and_then(|objectives| {
+                let (candidates, columns) = ranked(candidates, columns)?;
+                let mut kept: Vec<usize> = (0..candidates.len()).collect();
+                for (kind, _) in objectives {
+                    if kept.len() > 1 {
+                        let value = |place: &usize| value(kind, &candidates[*place], &columns);
+                        let best = kept.iter().map(value).fold(f64::NEG_INFINITY, f64::max);
+                        kept.retain(|place| value(place) >= best - 0.001);
+                    }
+                }
+                Ok(kept.into_iter().map(|place| place as u64).collect())
+            });
+            selected(line, expected, &mut seen);
+        }
+        assert!(seen[0] > 150 && seen[5] == 0, "{seen:?}");
+    }
+
+    #[test]
+    fn weighted() {
+        let mut seen = [0; 6];
+        for mut line in lines(24) {
+            let weights: [f64; 6] = std::array::from_fn(|_| float(&mut line));
+            let (candidates, columns) = (candidates(&mut line), columns(&mut line, 2));
+            let expected = ranked(candidates, columns).and_then(|(candidates, columns)| {
+                let scores = candidates.iter().map(|c| weights[0] * quality(c, &columns));
+                let scores: Vec<f64> = scores.collect();
+                rankable(&scores)?;
+                let mut places: Vec<u64> = (0..scores.len() as u64).collect();
+                let score = |place: u64| scores[place as usize];
+                places.sort_by(|&a, &b| score(b).partial_cmp(&score(a)).expect("no NaN"));
+                Ok(places)
+            });
+            selected(line, expected, &mut seen);
+        }
+        assert!(seen[0] > 150 && seen[5] > 3, "{seen:?}");
+    }
+}

@@ -2,9 +2,11 @@
 //!
 //! A refusal is 0 for none, else the number of document 01.
 
+mod rules;
 mod scores;
 mod show;
 
+pub use rules::*;
 pub use scores::*;
 
 /// One waiting player; party 0 and role 0 mean none.

@@ -1,5 +1,6 @@
 -- The limits, the refusals of the columns and of the pairs, then the score or minus infinity.
 use mathlib.Core.Path.{sym, _∙_}
+use native.Mathlib.Omega.{arith}
 use borrow.Author.Tests.{lt-ltb, le-ltb, not-true, not-false}
 use Rattle.base.proofs.Checks.{guard-refuses, guard-passes, at-limit, under-limit, by-first, by-second}
 use Rattle.policy.proofs.Laws.{violated, satisfied}
@@ -20,7 +21,7 @@ returns-2 : tie.Need-returns-2
 returns-2 c = at-limit _ (by-second _ (sym (c .before .before .before .is-overfull .ensures) ∙ c .before .before .if1 .left) (by-first _ (sym (c .before .is-over .ensures) ∙ c .if2 .taken)))
 
 returns-3 : tie.Need-returns-3
-returns-3 c = at-limit _ (by-second _ (sym (c .before .before .before .before .is-overfull .ensures) ∙ c .before .before .before .if1 .left) (by-second _ (sym (c .before .before .is-over .ensures) ∙ c .before .if2 .left) (lt-ltb _ _ (c .if3 .taken))))
+returns-3 c = at-limit _ (by-second _ (sym (c .before .before .before .before .is-overfull .ensures) ∙ c .before .before .before .if1 .left) (by-second _ (sym (c .before .before .is-over .ensures) ∙ c .before .if2 .left) (lt-ltb 8 (c .before .before .before .before .before .before .before .before .before .before .args .count) (omega arith))))
 
 check-rules-requires : tie.Need-check-rules-requires
 check-rules-requires c κs = search needs

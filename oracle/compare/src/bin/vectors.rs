@@ -29,6 +29,27 @@ const SCORES: &str = "\
 # 11 scalarize: vector, weights as a vector -> value
 # 12 dominates: vector, other vector -> 0 or 1";
 
+const RULES: &str = "\
+# requirements = n and n times role least bounded most (most counts only where bounded), or 9 alone for a len field of 9.
+# pairs = n and n times first second, or 17 alone for a count field of 17.
+# sizes = a b; brought = five times 0 or 1 (sizes roles parties latency regions).
+# constraints = brought sizes requirements pairs, all there whether brought or not.
+# objectives = k and k times kind weight; candidates = n and n times team a, team b, or 65 alone for a len field of 65.
+# places = n and n places from 0; of a refused selection n is 0.
+# 13 sizes: sizes, team a, team b -> refusal, 0 or 1
+# 14 roles: requirements, team a, team b, columns ids and roles -> refusal, 0 or 1
+# 15 parties: team a, team b, columns ids and parties -> refusal, 0 or 1
+# 16 latency: team a, team b, columns ids and ratings -> refusal, 0 or 1
+# 17 regions: pairs, team a, team b, columns ids and regions -> refusal, 0 or 1
+# 18 constraints: constraints, team a, team b, columns ids, ratings, parties, roles and regions -> refusal, 0 or 1
+# 19 validate: size, requirements, team, columns ids and roles -> refusal, place, fault (0 none, 1 size, 2 too few, 3 too many)
+# 20 policy score: constraints, objectives, team a, team b, columns as in 18 -> refusal, value
+# 21 greedy: objectives, candidates, columns ids and ratings -> refusal, places
+# 22 threshold: minimum, objectives, candidates, columns ids and ratings -> refusal, places
+# 23 lexicographic: objectives, candidates, columns ids and ratings -> refusal, places
+# 24 weighted: weights as a vector, candidates, columns ids and ratings -> refusal, places
+# Where scores do not strictly rise the Rust has no answer to 24: places are then the stable falling order.";
+
 fn main() {
     let options = options::parse(env::args().skip(1), 200, &[]).unwrap_or_else(|error| {
         eprintln!("{error}\nusage: vectors [--cases N] [--seed S]");
@@ -49,6 +70,7 @@ fn write(cases: u64, seed: u64) -> io::Result<()> {
     )?;
     writeln!(out, "{LAYOUT}")?;
     writeln!(out, "{SCORES}")?;
+    writeln!(out, "{RULES}")?;
     for function in FAMILIES.iter().flat_map(|(_, functions)| *functions) {
         let Some(store) = function.store else {
             continue;

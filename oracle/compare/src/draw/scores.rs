@@ -28,7 +28,7 @@ enum Spread {
 const UNKNOWN_KINDS: [u8; 4] = [LAST_KIND + 1, LAST_KIND + 2, 1 << 7, u8::MAX];
 
 /// Team and list lengths that refusal 1 is for: 9, then those of a queue.
-fn long_len(rng: &mut Rng) -> usize {
+pub(super) fn long_len(rng: &mut Rng) -> usize {
     if rng.one_in(2) {
         TEAM_LIMIT + 1
     } else {
@@ -81,12 +81,12 @@ fn unit(rng: &mut Rng) -> f64 {
     (rng.next_u64() >> 11) as f64 / (1u64 << 53) as f64
 }
 
-fn fine(rng: &mut Rng, low: f64, high: f64) -> f64 {
+pub(super) fn fine(rng: &mut Rng, low: f64, high: f64) -> f64 {
     low + (high - low) * unit(rng)
 }
 
 /// So many floats from `low` to `high`, or wild.
-fn floats(rng: &mut Rng, rows: usize, low: f64, high: f64) -> Vec<f64> {
+pub(super) fn floats(rng: &mut Rng, rows: usize, low: f64, high: f64) -> Vec<f64> {
     let spread = rng.weighted(&[
         (1, Spread::Equal),
         (2, Spread::Steps),
@@ -106,7 +106,7 @@ fn floats(rng: &mut Rng, rows: usize, low: f64, high: f64) -> Vec<f64> {
 }
 
 /// Mostly near 0, where latency tells ratings apart; near 1000; or far apart.
-fn rating_range(rng: &mut Rng) -> (f64, f64) {
+pub(super) fn rating_range(rng: &mut Rng) -> (f64, f64) {
     rng.weighted(&[
         (5, (-150.0, 290.0)),
         (3, (850.0, 1350.0)),

@@ -1,9 +1,12 @@
 //! The table of families. A new one: its file, its `mod`, its line in the table.
 
+pub mod constraint;
+pub mod policy;
 pub mod quality;
 pub mod queue;
 pub mod roster;
 pub mod score;
+pub mod selection;
 pub mod soft;
 pub mod time;
 pub mod vector;
@@ -18,4 +21,7 @@ pub const FAMILIES: &[(&str, &[Listed])] = &[
     ("score", score::FUNCTIONS),
     ("soft", soft::FUNCTIONS),
     ("vector", vector::FUNCTIONS),
+    ("constraint", constraint::FUNCTIONS),
+    ("policy", policy::FUNCTIONS),
+    ("selection", selection::FUNCTIONS),
 ];

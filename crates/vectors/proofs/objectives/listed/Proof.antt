@@ -1,10 +1,10 @@
--- `vectors::functions::soft_score::listed` is safe and ends. Stores keep the arrays' lengths.
+-- `vectors::objectives::listed` is safe and ends. Stores keep the arrays' lengths.
 use lib.ListN.{length}
 use mathlib.Core.Path.{_≡_}
 use Prim.Native.Nat.{_-_}
 use borrow.Author.Needs.{needs}
-use Rattle.vectors.proofs.functions.soft_score.listed.Statement.{statement}
-use Rattle.vectors.proofs.functions.soft_score.listed.Tie as tie
+use Rattle.vectors.proofs.objectives.listed.Statement.{statement}
+use Rattle.vectors.proofs.objectives.listed.Tie as tie
 
 abbrev Inv-loop : tie.InvT-loop
 Inv-loop text n kinds₀ weights₀ known₀ cursor₀ i₀ kinds weights known cursor i = (length kinds ≡ 8) × (length weights ≡ 8)

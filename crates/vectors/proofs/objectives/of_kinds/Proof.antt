@@ -1,10 +1,10 @@
--- `vectors::functions::soft_score::objectives` is safe and ends. Stores keep the array's length.
+-- `vectors::objectives::of_kinds` is safe and ends. Stores keep the array's length.
 use lib.ListN.{length}
 use mathlib.Core.Path.{_≡_}
 use Prim.Native.Nat.{_-_}
 use borrow.Author.Needs.{needs}
-use Rattle.vectors.proofs.functions.soft_score.objectives.Statement.{statement}
-use Rattle.vectors.proofs.functions.soft_score.objectives.Tie as tie
+use Rattle.vectors.proofs.objectives.of_kinds.Statement.{statement}
+use Rattle.vectors.proofs.objectives.of_kinds.Tie as tie
 
 abbrev Inv-loop : tie.InvT-loop
 Inv-loop kinds weights out₀ i₀ out i = length out ≡ 8
@@ -48,8 +48,8 @@ loop-again c = search needs
 returns : tie.Need-returns Inv-loop μ-loop
 returns c = search needs
 
-pub objectives-spec : {M : Type 1} → statement M
-objectives-spec =
+pub of-kinds-spec : {M : Type 1} → statement M
+of-kinds-spec =
     tie.close
     (tie.spec
     Inv-loop
