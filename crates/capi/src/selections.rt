@@ -45,7 +45,7 @@ fn refused(refusal: u8) -> Selected
 }
 
 fn selected_numbers(selected: selection::Selected) -> Selected
-    ensures { λ r. ⌜ SelectNumbers (selectedOf selected) r ⌝ }
+    ensures { λ r. ⌜ SelectNumbers (selectedOf selected .places) r ⌝ }
 {
     let places = selected.places;
     let answer = selected.answer;

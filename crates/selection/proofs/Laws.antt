@@ -21,14 +21,14 @@ use Rattle.base.proofs.Cases.{cases, never}
 use Rattle.base.proofs.Arrays.{peel, peeled, push}
 use Rattle.base.proofs.Checks.{guard-refuses, guard-passes}
 use Rattle.ranking.specs.declared.Ranked.{Ranked}
-use Rattle.ranking.specs.Order.{ranked, scoreOf, fallen}
+use Rattle.ranking.specs.Order.{OrderState, ordered, ranked, scoreOf, fallen}
 use Rattle.ranking.proofs.Laws.{length-inserted}
 use Rattle.roster.specs.Roster.{Roster}
 use Rattle.matchmaker.specs.declared.ProposedMatch.{ProposedMatch}
 use Rattle.matchmaker.specs.Quality.{matchOf, overfull}
 use Rattle.objective.specs.declared.soft.SoftObjective.{SoftObjective}
 use Rattle.selection.specs.declared.lexicographic.Candidate.{Candidate}
-use Rattle.selection.specs.Selection.{Candidates, tooMuch, numbered, bestOf, firstAtLeast, unrankable, Kept, placed, nearBest, narrowed}
+use Rattle.selection.specs.Selection.{Candidates, SelectedState, stated, tooMuch, numbered, bestOf, firstAtLeast, unrankable, Kept, placed, nearBest, narrowed}
 use Rattle.selection.specs.Steps.{keptOf}
 
 -- ---- for base
@@ -82,17 +82,21 @@ unlike-itself (fin true m e) = rw (eq-eqb (m * up e * down e) (m * up e * down e
 unlike-itself (fin false m e) = rw (eq-eqb (m * up e * down e) (m * up e * down e) refl)
 
 -- a check's first refusal stands before the others
-module _ {A : Type 0} (t : Bool) (o : Outcome Unit) (v : Outcome A) where
+module _ (t : Bool) (o : Outcome Unit) (v : Outcome (List ℕ)) where
   first-refused : guarded (cond t (refused 1) o) v ≡ cond t (refused 1) (guarded o v)
   first-refused = cases t (λ y. rw y) (λ n. rw n)
 
   -- where the check refuses, so does the answer
-  pub answer-refused : (k : Checked) {s : Outcome A} {x : Refusal} → k ≡ Refused x → checkedOf k ≡ cond t (refused 1) o → s ≡ refused (refusalNumber x) → s ≡ cond t (refused 1) (guarded o v)
-  answer-refused k e h a = a ∙ guard-refuses v k e h ∙ first-refused
+  pub answer-refused : (k : Checked) {s : SelectedState} {x : Refusal} → k ≡ Refused x → checkedOf k ≡ cond t (refused 1) o → s ≡ stated (refused (refusalNumber x)) → s ≡ stated (cond t (refused 1) (guarded o v))
+  answer-refused k e h a = a ∙ ap stated (guard-refuses v k e h ∙ first-refused)
 
   -- where it passes, the answer is what comes behind it
-  pub answer-given : (k : Checked) {s : Outcome A} → k ≡ Passed → checkedOf k ≡ cond t (refused 1) o → s ≡ v → s ≡ cond t (refused 1) (guarded o v)
-  answer-given k e h a = a ∙ guard-passes v k e h ∙ first-refused
+  pub answer-given : (k : Checked) {s : SelectedState} → k ≡ Passed → checkedOf k ≡ cond t (refused 1) o → s ≡ stated v → s ≡ stated (cond t (refused 1) (guarded o v))
+  answer-given k e h a = a ∙ ap stated (guard-passes v k e h ∙ first-refused)
+
+-- an answer that states as many places as the list has
+pub counted : {n : ℕ} {xs ys : List ℕ} → n ≡ length ys → xs ≡ ys → record { size = n; places = gives xs } ≡ stated (gives ys)
+counted e h = rw (e, h)
 
 -- ---- the check, and refusal 5
 
@@ -122,18 +126,22 @@ rankedRule f scores = cond (unrankable scores) (refused 5) (gives (f scores))
 -- behind a check that passes, `scores` being the first of an array that hold them
 module _ (t : Bool) (o : Outcome Unit) (f : List Float → List ℕ) {held scores : List Float} (same : held ≡ scores) (k : Checked) (e : k ≡ Passed) (h : checkedOf k ≡ cond t (refused 1) o) where
   -- scores that cannot be ranked: 5
-  pub ranked-refused : {s : Outcome (List ℕ)} → unrankable held ≡ true → s ≡ refused 5 → s ≡ cond t (refused 1) (guarded o (rankedRule f scores))
+  pub ranked-refused : {s : SelectedState} → unrankable held ≡ true → s ≡ stated (refused 5) → s ≡ stated (cond t (refused 1) (guarded o (rankedRule f scores)))
   ranked-refused u a =
       let q : refused 5 ≡ rankedRule f held = rw u in
-      answer-given t o (rankedRule f scores) k e h (a ∙ q ∙ ap (rankedRule f) same)
+      answer-given t o (rankedRule f scores) k e h (a ∙ ap stated (q ∙ ap (rankedRule f) same))
 
   -- any others are
-  pub ranked-given : {s : Outcome (List ℕ)} → unrankable held ≡ false → s ≡ gives (f held) → s ≡ cond t (refused 1) (guarded o (rankedRule f scores))
+  pub ranked-given : {s : SelectedState} → unrankable held ≡ false → s ≡ stated (gives (f held)) → s ≡ stated (cond t (refused 1) (guarded o (rankedRule f scores)))
   ranked-given u a =
       let q : gives (f held) ≡ rankedRule f held = rw u in
-      answer-given t o (rankedRule f scores) k e h (a ∙ q ∙ ap (rankedRule f) same)
+      answer-given t o (rankedRule f scores) k e h (a ∙ ap stated (q ∙ ap (rankedRule f) same))
 
 -- ---- numbered scores
+
+-- an order of just these states as many as it holds
+pub ordered-by : (o : OrderState) {xs : List Ranked} → o ≡ ordered xs → o ≡ ordered (o .ranked)
+ordered-by o e = e ∙ sym (ap (λ (q : OrderState). ordered (q .ranked)) e)
 
 module _ (es : List Float) (n i : ℕ) (fits : n ≤ length es) where
   -- what is left at i begins with the score at i
@@ -173,15 +181,18 @@ module _ (es : List Float) (n i : ℕ) (fits : n ≤ length es) where
       let e : better scoreOf (ranked best (getD es best nan)) (ranked i (getD es i nan)) ≡ ranked i (getD es i nan) = rw t in
       sym (ap (λ (x : Ranked). lastBest scoreOf x (numbered (i + 1) (drop (i + 1) (take n es)))) e) ∙ (rw (numbered-on h) at inv)
 
-  -- one more score goes to its place in the order so far
-  pub order-on : {w : List Ranked} (xs : List Ranked) {ys : List Ranked} → foldl (λ (sorted : List Ranked) x. insertBy (higher scoreOf) x sorted) xs (numbered i (drop i (take n es))) ≡ w → i < n → n ≤ 64 → length xs ≡ i → ys ≡ fallen xs (ranked i (getD es i nan)) → (length ys ≡ i + 1) × (foldl (λ (sorted : List Ranked) x. insertBy (higher scoreOf) x sorted) ys (numbered (i + 1) (drop (i + 1) (take n es))) ≡ w)
-  order-on xs {ys} inv h room l e =
-      let g : ys ≡ insertBy (higher scoreOf) (ranked i (getD es i nan)) xs = rw (lt-ltb (length xs) 64 (omega arith)) at e in
-      (ap length g ∙ length-inserted (higher scoreOf) (ranked i (getD es i nan)) xs ∙ omega arith, rw g (rw (numbered-on h) at inv))
+  -- one more score goes to its place in the order so far, which still states as many as it holds
+  pub order-on : {w : List Ranked} (o : OrderState) {p : OrderState} → foldl (λ (sorted : List Ranked) x. insertBy (higher scoreOf) x sorted) (o .ranked) (numbered i (drop i (take n es))) ≡ w → i < n → n ≤ 64 → length (o .ranked) ≡ i → o ≡ ordered (o .ranked) → p ≡ fallen o (ranked i (getD es i nan)) → (length (p .ranked) ≡ i + 1) × (p ≡ ordered (p .ranked)) × (foldl (λ (sorted : List Ranked) x. insertBy (higher scoreOf) x sorted) (p .ranked) (numbered (i + 1) (drop (i + 1) (take n es))) ≡ w)
+  order-on o {p} inv h room l d e =
+      let x = ranked i (getD es i nan) in
+      let z : o .size ≡ length (o .ranked) = ap (λ (q : OrderState). q .size) d in
+      let g : p ≡ ordered (insertBy (higher scoreOf) x (o .ranked)) = rw (lt-ltb (o .size) 64 (omega arith)) at e in
+      let k : p .ranked ≡ insertBy (higher scoreOf) x (o .ranked) = ap (λ (q : OrderState). q .ranked) g in
+      (ap length k ∙ length-inserted (higher scoreOf) x (o .ranked) ∙ omega arith, ordered-by p g, rw k (rw (numbered-on h) at inv))
 
   -- and the order stands at the end
-  pub order-end : {w : List Ranked} (xs : List Ranked) → foldl (λ (sorted : List Ranked) x. insertBy (higher scoreOf) x sorted) xs (numbered i (drop i (take n es))) ≡ w → n ≤ i → i ≤ n → xs ≡ w
-  order-end xs inv h k = rw (numbered-end h k) at inv
+  pub order-end : {w : List Ranked} (o : OrderState) → foldl (λ (sorted : List Ranked) x. insertBy (higher scoreOf) x sorted) (o .ranked) (numbered i (drop i (take n es))) ≡ w → n ≤ i → i ≤ n → o ≡ ordered (o .ranked) → o ≡ ordered w
+  order-end o inv h k d = d ∙ ap ordered (rw (numbered-end h k) at inv)
 
 -- the best of all is the last of the best
 pub best-end : (es : List Float) (n i best : ℕ) → n ≤ length es → lastBest scoreOf (ranked best (getD es best nan)) (numbered i (drop i (take n es))) ≡ lastBest scoreOf (ranked 0 (getD es 0 nan)) (numbered 1 (drop 1 (take n es))) → 0 < n → n ≤ i → i ≤ n → best ∷ [] ≡ bestOf (numbered 0 (take n es))

@@ -36,8 +36,22 @@ abbrev pub placesGiven : Outcome Unit → List ℕ → Outcome (List ℕ)
 placesGiven (refused n) ps = refused n
 placesGiven (gives u) ps = gives ps
 
-abbrev pub selectedOf : Selected → Outcome (List ℕ)
-selectedOf s = placesGiven (checkedOf (s .answer)) (take (s .count) (s .places))
+-- an answer: the number of places that it states, and the places or the refusal
+pub record SelectedState : Type 0 where
+  pub size : ℕ
+  pub places : Outcome (List ℕ)
+
+abbrev pub selectedOf : Selected → SelectedState
+selectedOf s = record { size = s .count; places = placesGiven (checkedOf (s .answer)) (take (s .count) (s .places)) }
+
+-- how many places are given: none where it is refused
+abbrev pub placesIn : Outcome (List ℕ) → ℕ
+placesIn (refused n) = 0
+placesIn (gives ps) = length ps
+
+-- the answer that states as many places as it gives
+abbrev pub stated : Outcome (List ℕ) → SelectedState
+stated o = record { size = placesIn o; places = o }
 
 -- ---- refusals
 

@@ -4,7 +4,7 @@ ghost use mathlib.Core.List.{[], _∷_};
 ghost use Prim.Native.Nat.{_≤_, _<_};
 ghost use lib.ListN.{take};
 ghost use Rattle.roster.specs.Roster.{ofRatings};
-ghost use Rattle.selection.specs.Selection.{candidatesOf, selectedOf, numbered, bestOf, greedyRule};
+ghost use Rattle.selection.specs.Selection.{candidatesOf, selectedOf, stated, numbered, bestOf, greedyRule};
 use crate::Selected;
 use base::Checked;
 use base::Refusal;
@@ -37,7 +37,7 @@ pub fn select(
     ids: &[u64],
     ratings: &[f64],
 ) -> Selected
-    ensures { λ r. ⌜ selectedOf r ≡ greedyRule (ofRatings (now (ids .entry)) (now (ratings .entry))) objectives count (candidatesOf candidates n) ⌝ }
+    ensures { λ r. ⌜ selectedOf r ≡ stated (greedyRule (ofRatings (now (ids .entry)) (now (ratings .entry))) objectives count (candidatesOf candidates n)) ⌝ }
 {
     if let Checked::Refused(refusal) = crate::check(candidates, n, count, ids, ratings) {
         return crate::refuse(refusal);

@@ -9,7 +9,7 @@ ghost use Rattle.base.specs.Refusals.{gives};
 ghost use Rattle.roster.specs.Roster.{ofRatings};
 ghost use Rattle.matchmaker.specs.Quality.{matchOf};
 ghost use Rattle.objective.specs.Soft.{softValueOf};
-ghost use Rattle.selection.specs.Selection.{candidatesOf, selectedOf, maxOf, highestOf, placed, valueOf, nearBest, narrowed, lexicographicRule};
+ghost use Rattle.selection.specs.Selection.{candidatesOf, selectedOf, stated, maxOf, highestOf, placed, valueOf, nearBest, narrowed, lexicographicRule};
 ghost use Rattle.selection.specs.Steps.{shortlistOf};
 use crate::Selected;
 use base::Checked;
@@ -172,7 +172,7 @@ fn narrow(
 // The places of those left.
 fn places_of(shortlist: Shortlist) -> Selected
     requires { ⌜ shortlist .len ≤ 64 ⌝ }
-    ensures { λ r. ⌜ selectedOf r ≡ gives (map (λ k. k .place) (shortlistOf shortlist)) ⌝ }
+    ensures { λ r. ⌜ selectedOf r ≡ stated (gives (map (λ k. k .place) (shortlistOf shortlist))) ⌝ }
 {
     let kept = shortlist.candidates;
     let n = shortlist.len;
@@ -198,7 +198,7 @@ pub fn select(
     ids: &[u64],
     ratings: &[f64],
 ) -> Selected
-    ensures { λ r. ⌜ selectedOf r ≡ lexicographicRule (ofRatings (now (ids .entry)) (now (ratings .entry))) objectives count (candidatesOf candidates n) ⌝ }
+    ensures { λ r. ⌜ selectedOf r ≡ stated (lexicographicRule (ofRatings (now (ids .entry)) (now (ratings .entry))) objectives count (candidatesOf candidates n)) ⌝ }
 {
     if let Checked::Refused(refusal) = crate::check(candidates, n, count, ids, ratings) {
         return crate::refuse(refusal);

@@ -10,7 +10,7 @@ ghost use Rattle.base.specs.Lists.{any};
 ghost use Rattle.roster.specs.Roster.{ofRatings, ratingsCheck};
 ghost use Rattle.matchmaker.specs.Quality.{matchOf, overfull};
 ghost use Rattle.objective.specs.Soft.{softScoreOf};
-ghost use Rattle.selection.specs.Selection.{candidatesOf, tooMuch, unrankable, selectedOf};
+ghost use Rattle.selection.specs.Selection.{candidatesOf, tooMuch, unrankable, selectedOf, stated};
 use base::Checked;
 use base::Refusal;
 use matchmaker::ProposedMatch;
@@ -37,7 +37,7 @@ pub struct Selected {
 
 // Nobody chosen, for this refusal.
 pub(crate) fn refuse(refusal: Refusal) -> Selected
-    ensures { λ r. ⌜ selectedOf r ≡ refused (refusalNumber refusal) ⌝ }
+    ensures { λ r. ⌜ selectedOf r ≡ stated (refused (refusalNumber refusal)) ⌝ }
 {
     Selected {
         places: [0; 64],
@@ -48,7 +48,7 @@ pub(crate) fn refuse(refusal: Refusal) -> Selected
 
 // Nobody chosen.
 pub(crate) fn nobody() -> Selected
-    ensures { λ r. ⌜ selectedOf r ≡ gives [] ⌝ }
+    ensures { λ r. ⌜ selectedOf r ≡ stated (gives []) ⌝ }
 {
     Selected {
         places: [0; 64],
@@ -59,7 +59,7 @@ pub(crate) fn nobody() -> Selected
 
 // One chosen.
 pub(crate) fn just(place: usize) -> Selected
-    ensures { λ r. ⌜ selectedOf r ≡ gives (place ∷ []) ⌝ }
+    ensures { λ r. ⌜ selectedOf r ≡ stated (gives (place ∷ [])) ⌝ }
 {
     Selected {
         places: [place; 64],

@@ -4,7 +4,7 @@ ghost use Prim.Native.Nat.{_≤_};
 ghost use lib.ListN.{take};
 ghost use Rattle.base.specs.Refusals.{gives};
 ghost use Rattle.roster.specs.Roster.{ofRatings};
-ghost use Rattle.selection.specs.Selection.{candidatesOf, selectedOf, numbered, firstAtLeast, thresholdRule};
+ghost use Rattle.selection.specs.Selection.{candidatesOf, selectedOf, stated, numbered, firstAtLeast, thresholdRule};
 use crate::Selected;
 use base::Checked;
 use matchmaker::ProposedMatch;
@@ -13,7 +13,7 @@ use objective::soft::SoftObjective;
 // The place of the first of n scores at or above the minimum.
 fn first_at_least(minimum: f64, scores: [f64; 64], n: usize) -> Selected
     requires { ⌜ n ≤ 64 ⌝ }
-    ensures { λ r. ⌜ selectedOf r ≡ gives (firstAtLeast minimum (numbered 0 (take n scores))) ⌝ }
+    ensures { λ r. ⌜ selectedOf r ≡ stated (gives (firstAtLeast minimum (numbered 0 (take n scores)))) ⌝ }
 {
     let mut i: usize = 0;
     while i < n {
@@ -34,7 +34,7 @@ pub fn select(
     ids: &[u64],
     ratings: &[f64],
 ) -> Selected
-    ensures { λ r. ⌜ selectedOf r ≡ thresholdRule (ofRatings (now (ids .entry)) (now (ratings .entry))) minimum objectives count (candidatesOf candidates n) ⌝ }
+    ensures { λ r. ⌜ selectedOf r ≡ stated (thresholdRule (ofRatings (now (ids .entry)) (now (ratings .entry))) minimum objectives count (candidatesOf candidates n)) ⌝ }
 {
     if let Checked::Refused(refusal) = crate::check(candidates, n, count, ids, ratings) {
         return crate::refuse(refusal);

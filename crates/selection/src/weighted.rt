@@ -4,10 +4,10 @@ ghost use mathlib.Core.List.{map};
 ghost use Prim.Native.Nat.{_≤_};
 ghost use lib.ListN.{take};
 ghost use Rattle.roster.specs.Roster.{ofRatings};
-ghost use Rattle.selection.specs.Selection.{candidatesOf, selectedOf, numbered, skillScores, weightedRule};
+ghost use Rattle.selection.specs.Selection.{candidatesOf, selectedOf, stated, numbered, skillScores, weightedRule};
 ghost use Rattle.base.specs.Refusals.{gives};
 ghost use Rattle.base.specs.Ranking.{higher, sortBy};
-ghost use Rattle.ranking.specs.Order.{orderOf, scoreOf};
+ghost use Rattle.ranking.specs.Order.{orderOf, ordered, scoreOf};
 use crate::Selected;
 use base::Checked;
 use base::Refusal;
@@ -39,7 +39,7 @@ fn skill_scores(
 // The first n scores by falling score.
 fn falling_order(scores: [f64; 64], n: usize) -> Order
     requires { ⌜ n ≤ 64 ⌝ }
-    ensures { λ r. ⌜ orderOf r ≡ sortBy (higher scoreOf) (numbered 0 (take n scores)) ⌝ }
+    ensures { λ r. ⌜ orderOf r ≡ ordered (sortBy (higher scoreOf) (numbered 0 (take n scores))) ⌝ }
 {
     let mut order = Order::empty();
     let mut i: usize = 0;
@@ -52,7 +52,8 @@ fn falling_order(scores: [f64; 64], n: usize) -> Order
 
 // The places of an order, first to last.
 fn places_of(order: Order) -> Selected
-    ensures { λ r. ⌜ selectedOf r ≡ gives (map (λ c. c .place) (orderOf order)) ⌝ }
+    requires { ⌜ orderOf order ≡ ordered (orderOf order .ranked) ⌝ }
+    ensures { λ r. ⌜ selectedOf r ≡ stated (gives (map (λ c. c .place) (orderOf order .ranked))) ⌝ }
 {
     let items = order.ranked;
     let mut places = [0; 64];
@@ -76,7 +77,7 @@ pub fn select(
     ids: &[u64],
     ratings: &[f64],
 ) -> Selected
-    ensures { λ r. ⌜ selectedOf r ≡ weightedRule (ofRatings (now (ids .entry)) (now (ratings .entry))) weights (candidatesOf candidates n) ⌝ }
+    ensures { λ r. ⌜ selectedOf r ≡ stated (weightedRule (ofRatings (now (ids .entry)) (now (ratings .entry))) weights (candidatesOf candidates n)) ⌝ }
 {
     if let Checked::Refused(refusal) = crate::check(candidates, n, 0, ids, ratings) {
         return crate::refuse(refusal);

@@ -3,7 +3,7 @@ use mathlib.Core.Path.{sym, ap, _∙_}
 use mathlib.Core.List.{List}
 use Rattle.roster.specs.Roster.{ofRatings}
 use Rattle.objective.specs.declared.soft.SoftObjective.{SoftObjective}
-use Rattle.selection.specs.Selection.{thresholdRule}
+use Rattle.selection.specs.Selection.{SelectedState, thresholdRule}
 use Rattle.capi.specs.Scores.{softsOf}
 use Rattle.capi.specs.Selections.{candidatesOf}
 use Rattle.capi.proofs.Choices.{by-rule, kinds-pass, kind-refused}
@@ -38,7 +38,7 @@ returns-2 c =
     let a = c .before .before .before .before .before .before .before .before .args in
     let softs = ap (λ (o : List SoftObjective). thresholdRule (ofRatings (a .ids .now) (a .ratings .now)) (a .minimum) o (a .objectives .len) (candidatesOf (a .candidates))) (c .before .before .before .objectives .ensures) in
     let passed = kinds-pass (a .objectives) _ (sym (c .before .before .before .before .before .has-no-kind .ensures) ∙ c .before .before .before .before .if1 .left) in
-    by-rule _ (c .before .select .ensures ∙ softs ∙ passed) (c .selected-numbers .ensures)
+    by-rule _ (ap (λ (s : SelectedState). s .places) (c .before .select .ensures) ∙ softs ∙ passed) (c .selected-numbers .ensures)
 
 pub yilgashe-select-threshold-spec : {M : Type 1} → statement M
 yilgashe-select-threshold-spec =

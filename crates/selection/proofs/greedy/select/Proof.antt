@@ -4,7 +4,7 @@ use mathlib.Core.Path.{sym, ap, _∙_}
 use native.Mathlib.Omega.{arith}
 use Rattle.base.specs.Refusals.{gives}
 use Rattle.roster.specs.Roster.{ofRatings, ratingsCheck}
-use Rattle.selection.specs.Selection.{candidatesOf, tooMuch, numbered, bestOf}
+use Rattle.selection.specs.Selection.{candidatesOf, stated, tooMuch, numbered, bestOf}
 use Rattle.selection.proofs.Laws.{answer-refused, passed-fits, ranked-refused, ranked-given, best-none}
 use borrow.Author.Needs.{needs}
 use Rattle.selection.proofs.greedy.select.Statement.{statement}
@@ -59,7 +59,7 @@ returns-3 c =
     let a = c .before .before .before .before .before .before .before .before .before .before .args in
     let r = ofRatings (a .ids .now) (a .ratings .now) in
     let t = tooMuch (candidatesOf (a .candidates) (a .n)) (a .count) in
-    ranked-given t (ratingsCheck r) (λ s. bestOf (numbered 0 s)) (c .before .before .before .before .scores .ensures) _ (c .before .before .before .before .before .enum-told .given .1) (c .before .before .before .before .before .before .before .check .ensures) (sym (c .before .before .before .is-unrankable .ensures) ∙ c .before .before .if1 .left) (c .nobody .ensures ∙ ap gives (best-none (c .before .before .before .before .scores .result) (a .n) (c .before .if2 .taken)))
+    ranked-given t (ratingsCheck r) (λ s. bestOf (numbered 0 s)) (c .before .before .before .before .scores .ensures) _ (c .before .before .before .before .before .enum-told .given .1) (c .before .before .before .before .before .before .before .check .ensures) (sym (c .before .before .before .is-unrankable .ensures) ∙ c .before .before .if1 .left) (c .nobody .ensures ∙ ap (λ ps. stated (gives ps)) (best-none (c .before .before .before .before .scores .result) (a .n) (c .before .if2 .taken)))
 
 last-best-requires : tie.Need-last-best-requires
 last-best-requires c κs =
@@ -75,7 +75,7 @@ returns-4 c =
     let a = c .before .before .before .before .before .before .before .before .before .before .before .args in
     let r = ofRatings (a .ids .now) (a .ratings .now) in
     let t = tooMuch (candidatesOf (a .candidates) (a .n)) (a .count) in
-    ranked-given t (ratingsCheck r) (λ s. bestOf (numbered 0 s)) (c .before .before .before .before .before .scores .ensures) _ (c .before .before .before .before .before .before .enum-told .given .1) (c .before .before .before .before .before .before .before .before .check .ensures) (sym (c .before .before .before .before .is-unrankable .ensures) ∙ c .before .before .before .if1 .left) (c .just .ensures ∙ ap gives (c .before .last-best .ensures))
+    ranked-given t (ratingsCheck r) (λ s. bestOf (numbered 0 s)) (c .before .before .before .before .before .scores .ensures) _ (c .before .before .before .before .before .before .enum-told .given .1) (c .before .before .before .before .before .before .before .before .check .ensures) (sym (c .before .before .before .before .is-unrankable .ensures) ∙ c .before .before .before .if1 .left) (c .just .ensures ∙ ap (λ ps. stated (gives ps)) (c .before .last-best .ensures))
 
 pub select-spec : {M : Type 1} → statement M
 select-spec =

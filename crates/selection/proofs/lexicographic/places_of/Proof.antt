@@ -3,11 +3,10 @@ use Prim.Native.Nat.{ℕ, _-_, _≤_}
 use mathlib.Core.Path.{_≡_, refl, sym, ap, _∙_}
 use mathlib.Core.List.{map, map-map}
 use native.Mathlib.Omega.{arith}
-use lib.ListN.{length, take, length-set}
+use lib.ListN.{length, take, length-map, length-set}
 use Rattle.base.proofs.Arrays.{unmapped}
-use Rattle.base.specs.Refusals.{gives}
 use Rattle.selection.specs.Steps.{keptOf}
-use Rattle.selection.proofs.Laws.{fill-on}
+use Rattle.selection.proofs.Laws.{counted, listed-length, fill-on}
 use borrow.Author.Needs.{needs}
 use Rattle.selection.proofs.lexicographic.places_of.Statement.{statement}
 use Rattle.selection.proofs.lexicographic.places_of.Tie as tie
@@ -50,8 +49,9 @@ returns : tie.Need-returns Inv-loop μ-loop
 returns c =
     let o = c .before .before .before .args .shortlist in
     let l = c .before .loop in
+    let w : length (o .candidates) ≡ 64 = search (unmapped, needs) in
     let e : o .len ≡ l .i = omega arith in
-    ap gives
+    counted (sym (length-map (map keptOf (take (o .len) (o .candidates))) (λ k. k .place) ∙ listed-length (o .candidates) (o .len) (omega arith)))
     (ap (λ (k : ℕ). take k (l .places)) e ∙ l .inv .2 ∙ ap (λ (k : ℕ). map (λ x. x .place) (take k (o .candidates))) (sym e)
     ∙ sym (map-map (λ k. k .place) keptOf (take (o .len) (o .candidates))))
 

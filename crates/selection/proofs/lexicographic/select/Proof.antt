@@ -6,7 +6,7 @@ use native.Mathlib.Omega.{arith}
 use lib.ListN.{take}
 use Rattle.base.specs.Refusals.{gives}
 use Rattle.roster.specs.Roster.{ofRatings, ratingsCheck}
-use Rattle.selection.specs.Selection.{candidatesOf, tooMuch, narrowed}
+use Rattle.selection.specs.Selection.{candidatesOf, stated, tooMuch, narrowed}
 use Rattle.selection.proofs.Laws.{answer-refused, answer-given, passed-fits}
 use borrow.Author.Needs.{needs}
 use Rattle.selection.proofs.lexicographic.select.Statement.{statement}
@@ -51,7 +51,7 @@ returns-2 c =
     let a = c .before .before .before .before .before .before .before .before .args in
     let r = ofRatings (a .ids .now) (a .ratings .now) in
     let t = tooMuch (candidatesOf (a .candidates) (a .n)) (a .count) in
-    answer-given t (ratingsCheck r) _ _ (c .before .before .before .enum-told .given .1) (c .before .before .before .before .before .check .ensures) (c .places-of .ensures ∙ ap (λ l. gives (map (λ k. k .place) l)) (c .before .narrow .ensures .0 ∙ ap (narrowed r (take (a .count) (a .objectives))) (c .before .before .listed .ensures .0)))
+    answer-given t (ratingsCheck r) _ _ (c .before .before .before .enum-told .given .1) (c .before .before .before .before .before .check .ensures) (c .places-of .ensures ∙ ap (λ l. stated (gives (map (λ k. k .place) l))) (c .before .narrow .ensures .0 ∙ ap (narrowed r (take (a .count) (a .objectives))) (c .before .before .listed .ensures .0)))
 
 pub select-spec : {M : Type 1} → statement M
 select-spec =

@@ -4,7 +4,7 @@ use mathlib.Core.Path.{_≡_, ap, _∙_}
 use native.Mathlib.Omega.{arith}
 use lib.ListN.{take, drop}
 use Rattle.base.specs.Refusals.{gives}
-use Rattle.selection.specs.Selection.{numbered, firstAtLeast}
+use Rattle.selection.specs.Selection.{stated, numbered, firstAtLeast}
 use Rattle.selection.proofs.Laws.{first-hit, first-on, first-none}
 use borrow.Author.Needs.{needs}
 use Rattle.selection.proofs.threshold.first_at_least.Statement.{statement}
@@ -32,7 +32,7 @@ returns : tie.Need-returns Inv-loop μ-loop
 returns c =
     let s = c .before .before .before .before .args in
     let l = c .before .before .before .loop in
-    c .just .ensures ∙ ap gives (first-hit (s .t2) (s .n) (l .i) (omega arith) (s .minimum) (l .inv .1) (omega arith) (c .before .if1 .taken))
+    c .just .ensures ∙ ap (λ ps. stated (gives ps)) (first-hit (s .t2) (s .n) (l .i) (omega arith) (s .minimum) (l .inv .1) (omega arith) (c .before .if1 .taken))
 
 add-i : tie.Need-add-i Inv-loop μ-loop
 add-i c = search needs
@@ -53,7 +53,7 @@ returns-2 : tie.Need-returns-2 Inv-loop μ-loop
 returns-2 c =
     let s = c .before .before .before .args in
     let l = c .before .before .loop in
-    c .nobody .ensures ∙ ap gives (first-none (s .t2) (s .n) (l .i) (omega arith) (s .minimum) (l .inv .1) (omega arith) (omega arith))
+    c .nobody .ensures ∙ ap (λ ps. stated (gives ps)) (first-none (s .t2) (s .n) (l .i) (omega arith) (s .minimum) (l .inv .1) (omega arith) (omega arith))
 
 pub first-at-least-spec : {M : Type 1} → statement M
 first-at-least-spec =

@@ -4,7 +4,7 @@ use mathlib.Core.Path.{ap, _∙_}
 use native.Mathlib.Omega.{arith}
 use Rattle.base.specs.Refusals.{gives}
 use Rattle.roster.specs.Roster.{ofRatings, ratingsCheck}
-use Rattle.selection.specs.Selection.{candidatesOf, tooMuch, numbered, firstAtLeast}
+use Rattle.selection.specs.Selection.{candidatesOf, stated, tooMuch, numbered, firstAtLeast}
 use Rattle.selection.proofs.Laws.{answer-refused, answer-given, passed-fits}
 use borrow.Author.Needs.{needs}
 use Rattle.selection.proofs.threshold.select.Statement.{statement}
@@ -46,7 +46,7 @@ returns-2 c =
     let a = c .before .before .before .before .before .before .before .args in
     let r = ofRatings (a .ids .now) (a .ratings .now) in
     let t = tooMuch (candidatesOf (a .candidates) (a .n)) (a .count) in
-    answer-given t (ratingsCheck r) _ _ (c .before .before .enum-told .given .1) (c .before .before .before .before .check .ensures) (c .first-at-least .ensures ∙ ap (λ s. gives (firstAtLeast (a .minimum) (numbered 0 s))) (c .before .scores .ensures))
+    answer-given t (ratingsCheck r) _ _ (c .before .before .enum-told .given .1) (c .before .before .before .before .check .ensures) (c .first-at-least .ensures ∙ ap (λ s. stated (gives (firstAtLeast (a .minimum) (numbered 0 s)))) (c .before .scores .ensures))
 
 pub select-spec : {M : Type 1} → statement M
 select-spec =

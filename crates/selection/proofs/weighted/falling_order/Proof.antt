@@ -1,19 +1,19 @@
--- The order so far and the rest of the scores make the order of all; it holds as many as were added.
+-- The order so far and the rest of the scores make the order of all; it states and holds as many as were added.
 use Prim.Native.Nat.{_-_, _≤_}
 use mathlib.Core.Path.{_≡_, ap}
 use mathlib.Core.List.{foldl}
 use native.Mathlib.Omega.{arith}
 use lib.ListN.{length, take, drop}
 use Rattle.base.specs.Ranking.{insertBy, higher, sortBy}
-use Rattle.ranking.specs.Order.{orderOf, scoreOf}
+use Rattle.ranking.specs.Order.{orderOf, ordered, scoreOf}
 use Rattle.selection.specs.Selection.{numbered}
-use Rattle.selection.proofs.Laws.{order-on, order-end}
+use Rattle.selection.proofs.Laws.{ordered-by, order-on, order-end}
 use borrow.Author.Needs.{needs}
 use Rattle.selection.proofs.weighted.falling_order.Statement.{statement}
 use Rattle.selection.proofs.weighted.falling_order.Tie as tie
 
 abbrev Inv-loop : tie.InvT-loop
-Inv-loop n scores order₀ i₀ order i = (i ≤ n) × (length (orderOf order) ≡ i) × (foldl (λ sorted x. insertBy (higher scoreOf) x sorted) (orderOf order) (numbered i (drop i (take n scores))) ≡ sortBy (higher scoreOf) (numbered 0 (take n scores)))
+Inv-loop n scores order₀ i₀ order i = (i ≤ n) × (length (orderOf order .ranked) ≡ i) × (orderOf order ≡ ordered (orderOf order .ranked)) × (foldl (λ sorted x. insertBy (higher scoreOf) x sorted) (orderOf order .ranked) (numbered i (drop i (take n scores))) ≡ sortBy (higher scoreOf) (numbered 0 (take n scores)))
 
 abbrev μ-loop : tie.MeasureT-loop
 μ-loop n scores order₀ i₀ order i = n - i
@@ -24,7 +24,7 @@ empty-requires c κs = search needs
 loop-holds : tie.Need-loop-holds Inv-loop μ-loop
 loop-holds c =
     let e = c .empty .ensures in
-    (omega arith, ap length e, ap (λ o. foldl (λ sorted x. insertBy (higher scoreOf) x sorted) o (numbered 0 (take (c .before .args .n) (c .before .args .t1)))) e)
+    (omega arith, ap (λ o. length (o .ranked)) e, ordered-by _ e, ap (λ o. foldl (λ sorted x. insertBy (higher scoreOf) x sorted) (o .ranked) (numbered 0 (take (c .before .args .n) (c .before .args .t1)))) e)
 
 mul-add-falling : tie.Need-mul-add-falling Inv-loop μ-loop
 mul-add-falling c = search needs
@@ -45,14 +45,14 @@ loop-again : tie.Need-loop-again Inv-loop μ-loop
 loop-again c =
     let s = c .before .before .before .before .args in
     let l = c .before .before .loop in
-    let g = order-on (s .t1) (s .n) (l .i) (omega arith) (orderOf (l .order)) (l .inv .2) (omega arith) (omega arith) (l .inv .1) (c .add-falling .ensures) in
-    (omega arith, g .0, g .1)
+    let g = order-on (s .t1) (s .n) (l .i) (omega arith) (orderOf (l .order)) (l .inv .3) (omega arith) (omega arith) (l .inv .1) (l .inv .2) (c .add-falling .ensures) in
+    (omega arith, g .0, g .1, g .2)
 
 returns : tie.Need-returns Inv-loop μ-loop
 returns c =
     let s = c .before .before .before .args in
     let l = c .before .loop in
-    order-end (s .t1) (s .n) (l .i) (omega arith) (orderOf (l .order)) (l .inv .2) (omega arith) (omega arith)
+    order-end (s .t1) (s .n) (l .i) (omega arith) (orderOf (l .order)) (l .inv .3) (omega arith) (omega arith) (l .inv .2)
 
 pub falling-order-spec : {M : Type 1} → statement M
 falling-order-spec =

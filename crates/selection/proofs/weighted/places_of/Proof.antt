@@ -1,12 +1,11 @@
 -- An array filled to its end: the place of each of the order.
 use Prim.Native.Nat.{_-_, _≤_}
-use mathlib.Core.Path.{_≡_, refl, ap}
+use mathlib.Core.Path.{_≡_, refl, sym, ap, _∙_}
 use mathlib.Core.List.{map}
 use native.Mathlib.Omega.{arith}
-use lib.ListN.{length, take, length-set}
+use lib.ListN.{length, take, length-map, length-set}
 use Rattle.base.proofs.Arrays.{unmapped}
-use Rattle.base.specs.Refusals.{gives}
-use Rattle.selection.proofs.Laws.{fill-on, filled}
+use Rattle.selection.proofs.Laws.{counted, fill-on, filled}
 use borrow.Author.Needs.{needs}
 use Rattle.selection.proofs.weighted.places_of.Statement.{statement}
 use Rattle.selection.proofs.weighted.places_of.Tie as tie
@@ -51,7 +50,8 @@ returns c =
     let l = c .before .loop in
     let w : length (o .ranked) ≡ 64 = search (unmapped, needs) in
     let e : l .i ≡ 64 = omega arith in
-    ap gives (filled (λ x. x .place) (o .ranked) (l .places) (l .i) (o .len) (omega arith) (omega arith) (l .inv .2))
+    counted (ap (λ s. s .size) (c .before .before .before .pre) ∙ sym (length-map (take (o .len) (o .ranked)) (λ x. x .place)))
+    (filled (λ x. x .place) (o .ranked) (l .places) (l .i) (o .len) (omega arith) (omega arith) (l .inv .2))
 
 pub places-of-spec : {M : Type 1} → statement M
 places-of-spec =

@@ -5,8 +5,8 @@ use mathlib.Core.List.{map}
 use native.Mathlib.Omega.{arith}
 use Rattle.base.specs.Refusals.{gives}
 use Rattle.roster.specs.Roster.{ofRatings, ratingsCheck}
-use Rattle.selection.specs.Selection.{candidatesOf, tooMuch, fallingPlaces}
-use Rattle.selection.proofs.Laws.{answer-refused, passed-fits, ranked-refused, ranked-given}
+use Rattle.selection.specs.Selection.{candidatesOf, stated, tooMuch, fallingPlaces}
+use Rattle.selection.proofs.Laws.{answer-refused, passed-fits, ordered-by, ranked-refused, ranked-given}
 use borrow.Author.Needs.{needs}
 use Rattle.selection.proofs.weighted.select.Statement.{statement}
 use Rattle.selection.proofs.weighted.select.Tie as tie
@@ -59,14 +59,14 @@ falling-order-requires c κs =
     omega arith
 
 places-of-requires : tie.Need-places-of-requires
-places-of-requires c κs = search needs
+places-of-requires c κs = ordered-by _ (c .falling-order .ensures)
 
 returns-3 : tie.Need-returns-3
 returns-3 c =
     let a = c .before .before .before .before .before .before .before .before .before .before .args in
     let r = ofRatings (a .ids .now) (a .ratings .now) in
     let t = tooMuch (candidatesOf (a .candidates) (a .n)) 0 in
-    ranked-given t (ratingsCheck r) fallingPlaces (c .before .before .before .before .skill-scores .ensures) _ (c .before .before .before .before .before .enum-told .given .1) (c .before .before .before .before .before .before .before .check .ensures) (sym (c .before .before .before .is-unrankable .ensures) ∙ c .before .before .if1 .left) (c .places-of .ensures ∙ ap (λ o. gives (map (λ x. x .place) o)) (c .before .falling-order .ensures))
+    ranked-given t (ratingsCheck r) fallingPlaces (c .before .before .before .before .skill-scores .ensures) _ (c .before .before .before .before .before .enum-told .given .1) (c .before .before .before .before .before .before .before .check .ensures) (sym (c .before .before .before .is-unrankable .ensures) ∙ c .before .before .if1 .left) (c .places-of .ensures ∙ ap (λ o. stated (gives (map (λ x. x .place) (o .ranked)))) (c .before .falling-order .ensures))
 
 pub select-spec : {M : Type 1} → statement M
 select-spec =
