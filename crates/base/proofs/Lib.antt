@@ -5,6 +5,7 @@ pub mod Members
 pub mod Sheets
 pub mod Sign
 pub mod Order
+pub mod Nan
 pub mod Highest
 pub mod Sorting
 pub mod Checks

@@ -1,5 +1,6 @@
-// What every crate shares: document 01's refusals, and `abs` and `min` on floats.
+// What every crate shares: document 01's refusals, and `abs`, `min` and the test for NaN on floats.
 ghost use mathlib.Core.Path.{_≡_};
+ghost use lib.Ieee.{isNan};
 ghost use Rattle.base.specs.Refusals.{refusalNumber};
 ghost use Rattle.base.specs.Floats.{absOf, minOf};
 
@@ -71,4 +72,11 @@ pub fn min(x: f64, y: f64) -> f64
         return x;
     }
     y
+}
+
+// Is the float no number?
+pub fn is_nan(x: f64) -> bool
+    ensures { λ r. ⌜ r ≡ isNan x ⌝ }
+{
+    x != x
 }

@@ -1,7 +1,7 @@
 // The waiting queue (queue.rs), by value: a queue goes in and the changed one comes out.
 ghost use mathlib.Core.Path.{_≡_};
 ghost use mathlib.Core.Bool.{_||_};
-ghost use mathlib.Core.List.{[], _∷_, _++_};
+ghost use mathlib.Core.List.{[], _∷_, _++_, map};
 ghost use Prim.Native.Nat.{_+_, _≤_, _<_, min};
 ghost use lib.ListN.{take, drop};
 ghost use Rattle.base.specs.Refusals.{checkedOf};
@@ -60,6 +60,11 @@ pub struct Batch {
 pub enum Waited {
     Nobody,
     Of(u64),
+}
+
+// The player at each place.
+pub struct Players {
+    pub ids: [u64; 64],
 }
 
 // How long a player has waited.

@@ -1,34 +1,33 @@
 -- Laws of the four selections over plain lists: what a turn of each loop does, and one law for each answer.
-use Prim.Native.Nat.{ℕ, zero, suc, _+_, _*_, _≤_, _<_}
+use Prim.Native.Nat.{ℕ, zero, _+_, _≤_, _<_}
 use mathlib.Core.Path.{_≡_, refl, sym, ap, _∙_}
 use mathlib.Core.Bool.{Bool, true, false, cond}
 use mathlib.Core.List.{List, [], _∷_, _++_, map, foldl, append-nil, map-append}
 use native.Mathlib.Numerals.{add-one}
-use native.Mathlib.Omega.{arith}
-use borrow.Author.Tests.{ltb-false, lt-ltb, le-ltb, eq-eqb}
+use borrow.Author.Tests.{ltb-false}
 use lib.Dec.{ltb, eqb}
-use lib.Ieee.{Float, nan, inf, fin, binary64, up, down, lt, le, eq, ne, isNan, neg, div, ofBits}
+use lib.Ieee.{Float, nan, inf, binary64, lt, le, neg, div, ofBits}
 use lib.ListN.{length, take, drop, getD, set, length-map}
-use lib.Seq.{append-snoc, length-take-le, take-suc, take-all}
+use lib.Seq.{append-snoc, length-take-le}
 use Rattle.base.specs.Floats as F
 use Rattle.base.specs.Refusals.{Outcome, refused, gives, guarded, refusalNumber, checkedOf}
 use Rattle.base.specs.declared.Checked.{Checked}
 use Rattle.base.specs.declared.Checked.the-variants.{Passed, Refused}
 use Rattle.base.specs.declared.Refusal.{Refusal}
 use Rattle.base.specs.Lists.{seek, any, keep}
-use Rattle.base.specs.Ranking.{better, lastBest, insertBy, higher}
+use Rattle.base.specs.Ranking.{unrankable, better, lastBest}
 use Rattle.base.proofs.Cases.{cases, never}
 use Rattle.base.proofs.Arrays.{peel, peeled, push}
 use Rattle.base.proofs.Checks.{guard-refuses, guard-passes}
 use Rattle.ranking.specs.declared.Ranked.{Ranked}
-use Rattle.ranking.specs.Order.{OrderState, ordered, ranked, scoreOf, fallen}
-use Rattle.ranking.proofs.Laws.{length-inserted}
+use Rattle.ranking.specs.Order.{ranked, scoreOf, numbered}
+use Rattle.ranking.proofs.Laws.{numbered-on, numbered-end}
 use Rattle.roster.specs.Roster.{Roster}
 use Rattle.matchmaker.specs.declared.ProposedMatch.{ProposedMatch}
 use Rattle.matchmaker.specs.Quality.{matchOf, overfull}
 use Rattle.objective.specs.declared.soft.SoftObjective.{SoftObjective}
 use Rattle.selection.specs.declared.lexicographic.Candidate.{Candidate}
-use Rattle.selection.specs.Selection.{Candidates, SelectedState, stated, tooMuch, numbered, bestOf, firstAtLeast, unrankable, Kept, placed, nearBest, narrowed}
+use Rattle.selection.specs.Selection.{Candidates, SelectedState, stated, tooMuch, bestOf, firstAtLeast, Kept, placed, nearBest, narrowed}
 use Rattle.selection.specs.Steps.{keptOf}
 
 -- ---- for base
@@ -51,35 +50,9 @@ module _ {A B : Type 0} (f : A → B) where
   fold-map g c [] = refl
   fold-map g c (x ∷ xs) = fold-map g (g c (f x)) xs
 
-  -- the first n of what f makes
-  pub take-map : (n : ℕ) (xs : List A) → take n (map f xs) ≡ map f (take n xs)
-  take-map zero xs = refl
-  take-map (suc n) [] = refl
-  take-map (suc n) (x ∷ xs) = ap (λ (r : List B). f x ∷ r) (take-map n xs)
-
-  -- an array filled with what f makes of another's elements: one more
-  pub fill-on : (es : List A) (out : List B) (i : ℕ) (d : A) {y : B} → i < length es → i < length out → take i out ≡ map f (take i es) → y ≡ f (getD es i d) → take (i + 1) (set out i y) ≡ map f (take (i + 1) es)
-  fill-on es out i d {y} h room inv e =
-      push out i y room ∙ rw (inv, e, add-one i, take-suc es i d h) (sym (map-append f (take i es) (getD es i d ∷ [])))
-
-  -- and one that is filled to its end holds the first n for every n
-  pub filled : (es : List A) (out : List B) (m n : ℕ) → length es ≡ m → length out ≡ m → take m out ≡ map f (take m es) → take n out ≡ map f (take n es)
-  filled es out m n l k inv =
-      let w : out ≡ map f es = sym (take-all m out (omega arith)) ∙ inv ∙ ap (map f) (take-all m es (omega arith)) in
-      rw w (take-map n es)
-
 -- nothing is left to fold at n: `fold-end-of`, without a default element to name
 pub fold-over : {A B : Type 0} (f : B → A → B) (es : List A) (n i : ℕ) → n ≤ length es → (b : B) → n ≤ i → i ≤ n → foldl f b (drop i (take n es)) ≡ b
 fold-over f es n i fits b h k = rw (peeled es n i fits h k)
-
--- a float is unequal to itself just where it is NaN
-pub unlike-itself : (x : Float) → ne x x ≡ isNan x
-unfolding ne eq isNan
-unlike-itself nan = refl
-unlike-itself (inf true) = refl
-unlike-itself (inf false) = refl
-unlike-itself (fin true m e) = rw (eq-eqb (m * up e * down e) (m * up e * down e) refl)
-unlike-itself (fin false m e) = rw (eq-eqb (m * up e * down e) (m * up e * down e) refl)
 
 -- a check's first refusal stands before the others
 module _ (t : Bool) (o : Outcome Unit) (v : Outcome (List ℕ)) where
@@ -110,15 +83,6 @@ passed-fits c m o k e h =
     no : {i : ℕ} {u : Unit} → _≡_ {A = Outcome Unit} (gives u) (refused i) → _≡_ {A = ℕ} 0 1
     no p = cc
 
-module _ (es : List Float) (n : ℕ) (fits : n ≤ length es) where
-  -- one score is ranked whatever it is
-  pub rankable-few : n ≤ 1 → false ≡ unrankable (take n es)
-  rankable-few h = rw (length-take-le n es fits, le-ltb 1 n h)
-
-  -- of two or more none may be NaN
-  pub rankable-many : {t : Bool} → 1 < n → t ≡ any isNan (take n es) → t ≡ unrankable (take n es)
-  rankable-many h e = rw (length-take-le n es fits, lt-ltb 1 n h) e
-
 -- what a ranking answers: refusal 5, or what f makes of the scores
 abbrev pub rankedRule : (List Float → List ℕ) → List Float → Outcome (List ℕ)
 rankedRule f scores = cond (unrankable scores) (refused 5) (gives (f scores))
@@ -139,60 +103,33 @@ module _ (t : Bool) (o : Outcome Unit) (f : List Float → List ℕ) {held score
 
 -- ---- numbered scores
 
--- an order of just these states as many as it holds
-pub ordered-by : (o : OrderState) {xs : List Ranked} → o ≡ ordered xs → o ≡ ordered (o .ranked)
-ordered-by o e = e ∙ sym (ap (λ (q : OrderState). ordered (q .ranked)) e)
-
 module _ (es : List Float) (n i : ℕ) (fits : n ≤ length es) where
-  -- what is left at i begins with the score at i
-  numbered-on : i < n → numbered i (drop i (take n es)) ≡ ranked i (getD es i nan) ∷ numbered (i + 1) (drop (i + 1) (take n es))
-  unfolding numbered
-  numbered-on h = rw (peel es n i nan fits h, add-one i)
-
-  -- nothing is left at n
-  numbered-end : n ≤ i → i ≤ n → numbered i (drop i (take n es)) ≡ []
-  unfolding numbered
-  numbered-end h k = rw (peeled es n i fits h k)
-
   -- a score that reaches the minimum is the first
   pub first-hit : (m : Float) → firstAtLeast m (numbered 0 (take n es)) ≡ firstAtLeast m (numbered i (drop i (take n es))) → i < n → le m (getD es i nan) ≡ true → i ∷ [] ≡ firstAtLeast m (numbered 0 (take n es))
   unfolding seek
-  first-hit m inv h t = sym (inv ∙ rw (numbered-on h, t))
+  first-hit m inv h t = sym (inv ∙ rw (numbered-on es n i fits h, t))
 
   -- any other leaves it to the rest
   pub first-on : (m : Float) → firstAtLeast m (numbered 0 (take n es)) ≡ firstAtLeast m (numbered i (drop i (take n es))) → i < n → le m (getD es i nan) ≡ false → firstAtLeast m (numbered 0 (take n es)) ≡ firstAtLeast m (numbered (i + 1) (drop (i + 1) (take n es)))
   unfolding seek
-  first-on m inv h t = inv ∙ rw (numbered-on h, t)
+  first-on m inv h t = inv ∙ rw (numbered-on es n i fits h, t)
 
   -- none reaches it
   pub first-none : (m : Float) → firstAtLeast m (numbered 0 (take n es)) ≡ firstAtLeast m (numbered i (drop i (take n es))) → n ≤ i → i ≤ n → [] ≡ firstAtLeast m (numbered 0 (take n es))
   unfolding seek
-  first-none m inv h k = sym (inv ∙ rw (numbered-end h k))
+  first-none m inv h k = sym (inv ∙ rw (numbered-end es n i fits h k))
 
   -- the best so far stays before a lower score
   pub best-stays : {w : Ranked} (best : ℕ) → lastBest scoreOf (ranked best (getD es best nan)) (numbered i (drop i (take n es))) ≡ w → i < n → lt (getD es i nan) (getD es best nan) ≡ true → lastBest scoreOf (ranked best (getD es best nan)) (numbered (i + 1) (drop (i + 1) (take n es))) ≡ w
   best-stays best inv h t =
       let e : better scoreOf (ranked best (getD es best nan)) (ranked i (getD es i nan)) ≡ ranked best (getD es best nan) = rw t in
-      sym (ap (λ (x : Ranked). lastBest scoreOf x (numbered (i + 1) (drop (i + 1) (take n es)))) e) ∙ (rw (numbered-on h) at inv)
+      sym (ap (λ (x : Ranked). lastBest scoreOf x (numbered (i + 1) (drop (i + 1) (take n es)))) e) ∙ (rw (numbered-on es n i fits h) at inv)
 
   -- and gives way to any other
   pub best-turns : {w : Ranked} (best : ℕ) → lastBest scoreOf (ranked best (getD es best nan)) (numbered i (drop i (take n es))) ≡ w → i < n → lt (getD es i nan) (getD es best nan) ≡ false → lastBest scoreOf (ranked i (getD es i nan)) (numbered (i + 1) (drop (i + 1) (take n es))) ≡ w
   best-turns best inv h t =
       let e : better scoreOf (ranked best (getD es best nan)) (ranked i (getD es i nan)) ≡ ranked i (getD es i nan) = rw t in
-      sym (ap (λ (x : Ranked). lastBest scoreOf x (numbered (i + 1) (drop (i + 1) (take n es)))) e) ∙ (rw (numbered-on h) at inv)
-
-  -- one more score goes to its place in the order so far, which still states as many as it holds
-  pub order-on : {w : List Ranked} (o : OrderState) {p : OrderState} → foldl (λ (sorted : List Ranked) x. insertBy (higher scoreOf) x sorted) (o .ranked) (numbered i (drop i (take n es))) ≡ w → i < n → n ≤ 64 → length (o .ranked) ≡ i → o ≡ ordered (o .ranked) → p ≡ fallen o (ranked i (getD es i nan)) → (length (p .ranked) ≡ i + 1) × (p ≡ ordered (p .ranked)) × (foldl (λ (sorted : List Ranked) x. insertBy (higher scoreOf) x sorted) (p .ranked) (numbered (i + 1) (drop (i + 1) (take n es))) ≡ w)
-  order-on o {p} inv h room l d e =
-      let x = ranked i (getD es i nan) in
-      let z : o .size ≡ length (o .ranked) = ap (λ (q : OrderState). q .size) d in
-      let g : p ≡ ordered (insertBy (higher scoreOf) x (o .ranked)) = rw (lt-ltb (o .size) 64 (omega arith)) at e in
-      let k : p .ranked ≡ insertBy (higher scoreOf) x (o .ranked) = ap (λ (q : OrderState). q .ranked) g in
-      (ap length k ∙ length-inserted (higher scoreOf) x (o .ranked) ∙ omega arith, ordered-by p g, rw k (rw (numbered-on h) at inv))
-
-  -- and the order stands at the end
-  pub order-end : {w : List Ranked} (o : OrderState) → foldl (λ (sorted : List Ranked) x. insertBy (higher scoreOf) x sorted) (o .ranked) (numbered i (drop i (take n es))) ≡ w → n ≤ i → i ≤ n → o ≡ ordered (o .ranked) → o ≡ ordered w
-  order-end o inv h k d = d ∙ ap ordered (rw (numbered-end h k) at inv)
+      sym (ap (λ (x : Ranked). lastBest scoreOf x (numbered (i + 1) (drop (i + 1) (take n es)))) e) ∙ (rw (numbered-on es n i fits h) at inv)
 
 -- the best of all is the last of the best
 pub best-end : (es : List Float) (n i best : ℕ) → n ≤ length es → lastBest scoreOf (ranked best (getD es best nan)) (numbered i (drop i (take n es))) ≡ lastBest scoreOf (ranked 0 (getD es 0 nan)) (numbered 1 (drop 1 (take n es))) → 0 < n → n ≤ i → i ≤ n → best ∷ [] ≡ bestOf (numbered 0 (take n es))

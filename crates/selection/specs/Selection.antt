@@ -1,15 +1,15 @@
 -- Document 01, "Exhaustive, constraints, selection": the four selections (selection.rs) over a list of candidates.
 use Prim.Native.Nat.{ℕ, suc}
-use mathlib.Core.Bool.{Bool, true, false, cond, _&&_, _||_}
+use mathlib.Core.Bool.{Bool, true, cond, _||_}
 use mathlib.Core.List.{List, [], _∷_, map, foldl}
 use lib.Dec.{ltb, eqb}
-use lib.Ieee.{Float, inf, binary64, sub, mul, lt, le, ne, isNan, ofBits}
+use lib.Ieee.{Float, inf, binary64, sub, mul, lt, le, ne, ofBits}
 use lib.ListN.{length, take}
 use Rattle.base.specs.Refusals.{Outcome, refused, gives, guarded, checkedOf}
 use Rattle.base.specs.Lists.{seek, any, keep}
-use Rattle.base.specs.Ranking.{lastBest, higher, sortBy}
+use Rattle.base.specs.Ranking.{unrankable, lastBest, higher, sortBy}
 use Rattle.ranking.specs.declared.Ranked.{Ranked}
-use Rattle.ranking.specs.Order.{ranked, scoreOf}
+use Rattle.ranking.specs.Order.{scoreOf, numbered}
 use Rattle.roster.specs.Roster.{Roster, ratingsCheck}
 use Rattle.matchmaker.specs.declared.ProposedMatch.{ProposedMatch}
 use Rattle.matchmaker.specs.Quality.{MatchState, matchOf, overfull, qualityOf}
@@ -25,11 +25,6 @@ pub record Candidates : Type 0 where
 
 abbrev pub candidatesOf : List ProposedMatch → ℕ → Candidates
 candidatesOf cs n = record { size = n; matches = map matchOf (take n cs) }
-
--- each score with the place of its candidate in the given list, numbered from `at` on
-unfoldable pub numbered : ℕ → List Float → List Ranked
-numbered at [] = []
-numbered at (s ∷ ss) = ranked at s ∷ numbered (suc at) ss
 
 -- "A selection answers with the chosen candidates' places in the given list, from 0."
 abbrev pub placesGiven : Outcome Unit → List ℕ → Outcome (List ℕ)
@@ -58,10 +53,6 @@ stated o = record { size = placesIn o; places = o }
 -- refusal 1: over 64 candidates, a team over 8, over 8 objectives
 abbrev pub tooMuch : Candidates → ℕ → Bool
 tooMuch c objectives = ltb 64 (c .size) || (any overfull (c .matches) || ltb 8 objectives)
-
--- refusal 5: "ranks two or more scores .. and one is NaN"
-abbrev pub unrankable : List Float → Bool
-unrankable scores = ltb 1 (length scores) && any isNan scores
 
 -- ---- GreedySelection: "takes the last of equal best"
 

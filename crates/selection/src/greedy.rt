@@ -3,8 +3,9 @@ ghost use mathlib.Core.Path.{_≡_};
 ghost use mathlib.Core.List.{[], _∷_};
 ghost use Prim.Native.Nat.{_≤_, _<_};
 ghost use lib.ListN.{take};
+ghost use Rattle.ranking.specs.Order.{numbered};
 ghost use Rattle.roster.specs.Roster.{ofRatings};
-ghost use Rattle.selection.specs.Selection.{candidatesOf, selectedOf, stated, numbered, bestOf, greedyRule};
+ghost use Rattle.selection.specs.Selection.{candidatesOf, selectedOf, stated, bestOf, greedyRule};
 use crate::Selected;
 use base::Checked;
 use base::Refusal;
@@ -43,7 +44,7 @@ pub fn select(
         return crate::refuse(refusal);
     }
     let scores = crate::scores(objectives, count, candidates, n, ids, ratings);
-    if crate::is_unrankable(scores, n) {
+    if ranking::is_unrankable(scores, n) {
         return crate::refuse(Refusal::Unranked);
     }
     if n == 0 {

@@ -3,14 +3,13 @@ ghost use mathlib.Core.Path.{_≡_};
 ghost use mathlib.Core.Bool.{cond};
 ghost use mathlib.Core.List.{[], _∷_, map};
 ghost use Prim.Native.Nat.{_≤_};
-ghost use lib.Ieee.{isNan};
 ghost use lib.ListN.{take};
 ghost use Rattle.base.specs.Refusals.{refused, gives, refusalNumber, checkedOf};
 ghost use Rattle.base.specs.Lists.{any};
 ghost use Rattle.roster.specs.Roster.{ofRatings, ratingsCheck};
 ghost use Rattle.matchmaker.specs.Quality.{matchOf, overfull};
 ghost use Rattle.objective.specs.Soft.{softScoreOf};
-ghost use Rattle.selection.specs.Selection.{candidatesOf, tooMuch, unrankable, selectedOf, stated};
+ghost use Rattle.selection.specs.Selection.{candidatesOf, tooMuch, selectedOf, stated};
 use base::Checked;
 use base::Refusal;
 use matchmaker::ProposedMatch;
@@ -126,29 +125,4 @@ pub(crate) fn scores(
         i += 1;
     }
     out
-}
-
-// Is the float no number?
-pub(crate) fn is_nan(x: f64) -> bool
-    ensures { λ r. ⌜ r ≡ isNan x ⌝ }
-{
-    x != x
-}
-
-// Are there two or more scores, and one of them NaN?
-pub(crate) fn is_unrankable(scores: [f64; 64], n: usize) -> bool
-    requires { ⌜ n ≤ 64 ⌝ }
-    ensures { λ r. ⌜ r ≡ unrankable (take n scores) ⌝ }
-{
-    if n <= 1 {
-        return false;
-    }
-    let mut i: usize = 0;
-    while i < n {
-        if is_nan(scores[i]) {
-            return true;
-        }
-        i += 1;
-    }
-    false
 }

@@ -4,10 +4,9 @@ ghost use mathlib.Core.List.{map};
 ghost use Prim.Native.Nat.{_≤_};
 ghost use lib.ListN.{take};
 ghost use Rattle.roster.specs.Roster.{ofRatings};
-ghost use Rattle.selection.specs.Selection.{candidatesOf, selectedOf, stated, numbered, skillScores, weightedRule};
+ghost use Rattle.selection.specs.Selection.{candidatesOf, selectedOf, stated, skillScores, weightedRule};
 ghost use Rattle.base.specs.Refusals.{gives};
-ghost use Rattle.base.specs.Ranking.{higher, sortBy};
-ghost use Rattle.ranking.specs.Order.{orderOf, ordered, scoreOf};
+ghost use Rattle.ranking.specs.Order.{orderOf, ordered};
 use crate::Selected;
 use base::Checked;
 use base::Refusal;
@@ -34,20 +33,6 @@ fn skill_scores(
         i += 1;
     }
     out
-}
-
-// The first n scores by falling score.
-fn falling_order(scores: [f64; 64], n: usize) -> Order
-    requires { ⌜ n ≤ 64 ⌝ }
-    ensures { λ r. ⌜ orderOf r ≡ ordered (sortBy (higher scoreOf) (numbered 0 (take n scores))) ⌝ }
-{
-    let mut order = Order::empty();
-    let mut i: usize = 0;
-    while i < n {
-        order = order.add_falling(i, scores[i]);
-        i += 1;
-    }
-    order
 }
 
 // The places of an order, first to last.
@@ -83,8 +68,8 @@ pub fn select(
         return crate::refuse(refusal);
     }
     let scores = skill_scores(weights, candidates, n, ids, ratings);
-    if crate::is_unrankable(scores, n) {
+    if ranking::is_unrankable(scores, n) {
         return crate::refuse(Refusal::Unranked);
     }
-    places_of(falling_order(scores, n))
+    places_of(ranking::falling(scores, n))
 }

@@ -7,10 +7,10 @@ use mathlib.Core.Path.{_≡_, sym, ap, _∙_}
 use mathlib.Core.List.{map, List, map-map}
 use native.Mathlib.Omega.{arith}
 use lib.ListN.{length, take, length-set}
+use Rattle.base.proofs.Arrays.{fill-on}
 use Rattle.roster.specs.Roster.{ofRatings}
 use Rattle.matchmaker.specs.Quality.{matchOf}
 use Rattle.objective.specs.Soft.{softScoreOf}
-use Rattle.selection.proofs.Laws.{fill-on}
 use borrow.Author.Needs.{needs}
 use Rattle.selection.proofs.scores.Statement.{statement}
 use Rattle.selection.proofs.scores.Tie as tie

@@ -5,8 +5,7 @@ use native.Mathlib.Omega.{arith}
 use lib.Ieee.{nan}
 use lib.ListN.{take, drop, getD}
 use Rattle.base.specs.Ranking.{lastBest}
-use Rattle.ranking.specs.Order.{ranked, scoreOf}
-use Rattle.selection.specs.Selection.{numbered}
+use Rattle.ranking.specs.Order.{ranked, scoreOf, numbered}
 use Rattle.selection.proofs.Laws.{best-stays, best-turns, best-end}
 use borrow.Author.Needs.{needs}
 use Rattle.selection.proofs.greedy.last_best.Statement.{statement}

@@ -4,7 +4,8 @@ use mathlib.Core.Path.{sym, ap, _∙_}
 use native.Mathlib.Omega.{arith}
 use Rattle.base.specs.Refusals.{gives}
 use Rattle.roster.specs.Roster.{ofRatings, ratingsCheck}
-use Rattle.selection.specs.Selection.{candidatesOf, stated, tooMuch, numbered, bestOf}
+use Rattle.ranking.specs.Order.{numbered}
+use Rattle.selection.specs.Selection.{candidatesOf, stated, tooMuch, bestOf}
 use Rattle.selection.proofs.Laws.{answer-refused, passed-fits, ranked-refused, ranked-given, best-none}
 use borrow.Author.Needs.{needs}
 use Rattle.selection.proofs.greedy.select.Statement.{statement}
@@ -36,10 +37,7 @@ scores-requires c κs =
     omega arith
 
 is-unrankable-requires : tie.Need-is-unrankable-requires
-is-unrankable-requires c κs =
-    let a = c .before .before .before .before .before .before .args in
-    let h : a .n ≤ 64 = passed-fits (candidatesOf (a .candidates) (a .n)) (a .count) _ _ (c .before .enum-told .given .1) (c .before .before .before .check .ensures) .0 in
-    omega arith
+is-unrankable-requires c κs = search needs
 
 refuse-requires-2 : tie.Need-refuse-requires-2
 refuse-requires-2 c κs = search needs

@@ -4,9 +4,9 @@ use mathlib.Core.Path.{_≡_, refl, sym, ap, _∙_}
 use mathlib.Core.List.{map, map-map}
 use native.Mathlib.Omega.{arith}
 use lib.ListN.{length, take, length-map, length-set}
-use Rattle.base.proofs.Arrays.{unmapped}
+use Rattle.base.proofs.Arrays.{fill-on, unmapped}
 use Rattle.selection.specs.Steps.{keptOf}
-use Rattle.selection.proofs.Laws.{counted, listed-length, fill-on}
+use Rattle.selection.proofs.Laws.{counted, listed-length}
 use borrow.Author.Needs.{needs}
 use Rattle.selection.proofs.lexicographic.places_of.Statement.{statement}
 use Rattle.selection.proofs.lexicographic.places_of.Tie as tie

@@ -4,7 +4,8 @@ use mathlib.Core.Path.{_≡_, ap, _∙_}
 use native.Mathlib.Omega.{arith}
 use lib.ListN.{take, drop}
 use Rattle.base.specs.Refusals.{gives}
-use Rattle.selection.specs.Selection.{stated, numbered, firstAtLeast}
+use Rattle.ranking.specs.Order.{numbered}
+use Rattle.selection.specs.Selection.{stated, firstAtLeast}
 use Rattle.selection.proofs.Laws.{first-hit, first-on, first-none}
 use borrow.Author.Needs.{needs}
 use Rattle.selection.proofs.threshold.first_at_least.Statement.{statement}

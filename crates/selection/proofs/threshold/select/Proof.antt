@@ -4,7 +4,8 @@ use mathlib.Core.Path.{ap, _∙_}
 use native.Mathlib.Omega.{arith}
 use Rattle.base.specs.Refusals.{gives}
 use Rattle.roster.specs.Roster.{ofRatings, ratingsCheck}
-use Rattle.selection.specs.Selection.{candidatesOf, stated, tooMuch, numbered, firstAtLeast}
+use Rattle.ranking.specs.Order.{numbered}
+use Rattle.selection.specs.Selection.{candidatesOf, stated, tooMuch, firstAtLeast}
 use Rattle.selection.proofs.Laws.{answer-refused, answer-given, passed-fits}
 use borrow.Author.Needs.{needs}
 use Rattle.selection.proofs.threshold.select.Statement.{statement}

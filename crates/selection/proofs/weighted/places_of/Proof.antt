@@ -4,8 +4,8 @@ use mathlib.Core.Path.{_≡_, refl, sym, ap, _∙_}
 use mathlib.Core.List.{map}
 use native.Mathlib.Omega.{arith}
 use lib.ListN.{length, take, length-map, length-set}
-use Rattle.base.proofs.Arrays.{unmapped}
-use Rattle.selection.proofs.Laws.{counted, fill-on, filled}
+use Rattle.base.proofs.Arrays.{fill-on, filled, take-map, unmapped}
+use Rattle.selection.proofs.Laws.{counted}
 use borrow.Author.Needs.{needs}
 use Rattle.selection.proofs.weighted.places_of.Statement.{statement}
 use Rattle.selection.proofs.weighted.places_of.Tie as tie
@@ -51,7 +51,7 @@ returns c =
     let w : length (o .ranked) ≡ 64 = search (unmapped, needs) in
     let e : l .i ≡ 64 = omega arith in
     counted (ap (λ s. s .size) (c .before .before .before .pre) ∙ sym (length-map (take (o .len) (o .ranked)) (λ x. x .place)))
-    (filled (λ x. x .place) (o .ranked) (l .places) (l .i) (o .len) (omega arith) (omega arith) (l .inv .2))
+    (ap (take (o .len)) (filled (λ x. x .place) (o .ranked) (l .places) (l .i) (omega arith) (omega arith) (l .inv .2)) ∙ take-map (λ x. x .place) (o .len) (o .ranked))
 
 pub places-of-spec : {M : Type 1} → statement M
 places-of-spec =

@@ -4,9 +4,10 @@ use mathlib.Core.Path.{sym, ap, _∙_}
 use mathlib.Core.List.{map}
 use native.Mathlib.Omega.{arith}
 use Rattle.base.specs.Refusals.{gives}
+use Rattle.ranking.proofs.Laws.{ordered-by}
 use Rattle.roster.specs.Roster.{ofRatings, ratingsCheck}
 use Rattle.selection.specs.Selection.{candidatesOf, stated, tooMuch, fallingPlaces}
-use Rattle.selection.proofs.Laws.{answer-refused, passed-fits, ordered-by, ranked-refused, ranked-given}
+use Rattle.selection.proofs.Laws.{answer-refused, passed-fits, ranked-refused, ranked-given}
 use borrow.Author.Needs.{needs}
 use Rattle.selection.proofs.weighted.select.Statement.{statement}
 use Rattle.selection.proofs.weighted.select.Tie as tie
@@ -37,10 +38,7 @@ skill-scores-requires c κs =
     omega arith
 
 is-unrankable-requires : tie.Need-is-unrankable-requires
-is-unrankable-requires c κs =
-    let a = c .before .before .before .before .before .before .args in
-    let h : a .n ≤ 64 = passed-fits (candidatesOf (a .candidates) (a .n)) 0 _ _ (c .before .enum-told .given .1) (c .before .before .before .check .ensures) .0 in
-    omega arith
+is-unrankable-requires c κs = search needs
 
 refuse-requires-2 : tie.Need-refuse-requires-2
 refuse-requires-2 c κs = search needs
@@ -52,21 +50,18 @@ returns-2 c =
     let t = tooMuch (candidatesOf (a .candidates) (a .n)) 0 in
     ranked-refused t (ratingsCheck r) fallingPlaces (c .before .before .before .skill-scores .ensures) _ (c .before .before .before .before .enum-told .given .1) (c .before .before .before .before .before .before .check .ensures) (sym (c .before .before .is-unrankable .ensures) ∙ c .before .if1 .taken) (c .refuse2 .ensures)
 
-falling-order-requires : tie.Need-falling-order-requires
-falling-order-requires c κs =
-    let a = c .before .before .before .before .before .before .before .before .args in
-    let h : a .n ≤ 64 = passed-fits (candidatesOf (a .candidates) (a .n)) 0 _ _ (c .before .before .before .enum-told .given .1) (c .before .before .before .before .before .check .ensures) .0 in
-    omega arith
+falling-requires : tie.Need-falling-requires
+falling-requires c κs = search needs
 
 places-of-requires : tie.Need-places-of-requires
-places-of-requires c κs = ordered-by _ (c .falling-order .ensures)
+places-of-requires c κs = ordered-by _ (c .falling .ensures)
 
 returns-3 : tie.Need-returns-3
 returns-3 c =
     let a = c .before .before .before .before .before .before .before .before .before .before .args in
     let r = ofRatings (a .ids .now) (a .ratings .now) in
     let t = tooMuch (candidatesOf (a .candidates) (a .n)) 0 in
-    ranked-given t (ratingsCheck r) fallingPlaces (c .before .before .before .before .skill-scores .ensures) _ (c .before .before .before .before .before .enum-told .given .1) (c .before .before .before .before .before .before .before .check .ensures) (sym (c .before .before .before .is-unrankable .ensures) ∙ c .before .before .if1 .left) (c .places-of .ensures ∙ ap (λ o. stated (gives (map (λ x. x .place) (o .ranked)))) (c .before .falling-order .ensures))
+    ranked-given t (ratingsCheck r) fallingPlaces (c .before .before .before .before .skill-scores .ensures) _ (c .before .before .before .before .before .enum-told .given .1) (c .before .before .before .before .before .before .before .check .ensures) (sym (c .before .before .before .is-unrankable .ensures) ∙ c .before .before .if1 .left) (c .places-of .ensures ∙ ap (λ o. stated (gives (map (λ x. x .place) (o .ranked)))) (c .before .falling .ensures))
 
 pub select-spec : {M : Type 1} → statement M
 select-spec =
@@ -81,6 +76,6 @@ select-spec =
     is-unrankable-requires
     refuse-requires-2
     returns-2
-    falling-order-requires
+    falling-requires
     places-of-requires
     returns-3)

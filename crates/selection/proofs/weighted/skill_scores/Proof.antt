@@ -6,9 +6,9 @@ use mathlib.Core.List.{map, List, map-map}
 use native.Mathlib.Omega.{arith}
 use lib.ListN.{length, take, length-set}
 use lib.Ieee.{binary64, mul, Float}
+use Rattle.base.proofs.Arrays.{fill-on}
 use Rattle.roster.specs.Roster.{ofRatings}
 use Rattle.matchmaker.specs.Quality.{matchOf, qualityOf}
-use Rattle.selection.proofs.Laws.{fill-on}
 use borrow.Author.Needs.{needs}
 use Rattle.selection.proofs.weighted.skill_scores.Statement.{statement}
 use Rattle.selection.proofs.weighted.skill_scores.Tie as tie

@@ -1,0 +1,66 @@
+-- An array filled: the ratings of the entries so far.
+use Prim.Native.Nat.{_-_, _≤_}
+use mathlib.Core.Path.{_≡_, refl}
+use mathlib.Core.List.{map}
+use native.Mathlib.Omega.{arith}
+use lib.ListN.{length, take, length-set}
+use Rattle.base.proofs.Arrays.{unmapped}
+use Rattle.queue.specs.declared.QueueEntry.{QueueEntry}
+use Rattle.queue.specs.Queue.{noEntry}
+use Rattle.search.proofs.Laws.{fill-on, fill-end}
+use borrow.Author.Needs.{needs}
+use Rattle.search.proofs.greedy.ratings_of.Statement.{statement}
+use Rattle.search.proofs.greedy.ratings_of.Tie as tie
+
+abbrev Inv-loop : tie.InvT-loop
+Inv-loop entries n out₀ i₀ out i = (i ≤ n) × (length out ≡ 64) × (length entries ≡ 64) × (take i out ≡ map (λ (e : QueueEntry). e .rating) (take i entries))
+
+abbrev μ-loop : tie.MeasureT-loop
+μ-loop entries n out₀ i₀ out i = n - i
+
+loop-holds : tie.Need-loop-holds Inv-loop μ-loop
+loop-holds c = (omega arith, search needs, search (unmapped, needs), refl)
+
+mul-entry : tie.Need-mul-entry Inv-loop μ-loop
+mul-entry c = search needs
+
+array-copy-out-entry : tie.Need-array-copy-out-entry Inv-loop μ-loop
+array-copy-out-entry c = search needs
+
+mul-out : tie.Need-mul-out Inv-loop μ-loop
+mul-out c = search needs
+
+array-write-out : tie.Need-array-write-out Inv-loop μ-loop
+array-write-out c = search needs
+
+add-i : tie.Need-add-i Inv-loop μ-loop
+add-i c = search needs
+
+loop-less : tie.Need-loop-less Inv-loop μ-loop
+loop-less c = search needs
+
+loop-again : tie.Need-loop-again Inv-loop μ-loop
+loop-again c =
+    let l = c .before .before .loop in
+    (omega arith, simp length-set (l .inv .1), l .inv .2, fill-on (λ (e : QueueEntry). e .rating) (c .before .before .before .before .args .queue .entries) (l .out) (l .i) noEntry (omega arith) (omega arith) (l .inv .3) refl)
+
+returns : tie.Need-returns Inv-loop μ-loop
+returns c =
+    let l = c .before .loop in
+    fill-end (λ (e : QueueEntry). e .rating) (c .before .before .before .args .queue .entries) (l .out) (l .i) (c .before .before .before .args .queue .len) (c .loop-test .left) (l .inv .0) (l .inv .3)
+
+pub ratings-of-spec : {M : Type 1} → statement M
+ratings-of-spec =
+    tie.close
+    (tie.spec
+    Inv-loop
+    μ-loop
+    loop-holds
+    mul-entry
+    array-copy-out-entry
+    mul-out
+    array-write-out
+    add-i
+    loop-less
+    loop-again
+    returns)

@@ -1,0 +1,109 @@
+-- Greedy search as the code goes: used marks by place, columns that were read once, running sums. No public contract cites this.
+use Prim.Native.Nat.{ℕ, zero, suc}
+use mathlib.Core.Bool.{Bool, true, false, cond}
+use mathlib.Core.List.{List, [], _∷_, _++_}
+use lib.Dec.{leb, eqb}
+use lib.Ieee.{Float, nan, inf, binary64, add, lt}
+use lib.ListN.{length, getD, replicate}
+use Rattle.base.specs.Floats as Floats
+use Rattle.base.specs.Lists.{times}
+use Rattle.matchmaker.specs.Quality.{MatchState, matchOf, averageFrom}
+use Rattle.seating.specs.declared.TeamComposition.{TeamComposition}
+use Rattle.search.specs.Turns.{alone, seatsLeft, takesA, grown, complete}
+use Rattle.search.specs.Greedy.{distance}
+use Rattle.search.specs.declared.greedy.Filling.{Filling}
+
+-- what is read of each place of the queue: the player, the entry's rating, the roster's rating or 0.0
+pub record Columns : Type 0 where
+  pub players : List ℕ
+  pub ratings : List Float
+  pub rostered : List Float
+
+abbrev pub columns : List ℕ → List Float → List Float → Columns
+columns players ratings rostered = record { players = players; ratings = ratings; rostered = rostered }
+
+-- the nearest so far: its place and its distance
+pub record Near : Type 0 where
+  pub place : ℕ
+  pub distance : Float
+
+unfoldable pub nearer : Float → List Float → List Bool → ℕ → Near → Near
+nearer reference ratings used i best =
+    cond (getD used i false) best
+    (cond (lt (distance reference (getD ratings i nan)) (best .distance))
+    (record { place = i; distance = distance reference (getD ratings i nan) })
+    best)
+
+-- the place of the nearest among the first n, and n where there is none
+abbrev pub nearestPlace : Float → List Float → List Bool → ℕ → ℕ
+nearestPlace reference ratings used n = times (nearer reference ratings used) (record { place = n; distance = inf false }) n .place
+
+-- the marks with every place of the player
+unfoldable pub marked : ℕ → List ℕ → List Bool → List Bool
+marked p [] us = []
+marked p (x ∷ xs) [] = []
+marked p (x ∷ xs) (u ∷ us) = cond (eqb x p) true u ∷ marked p xs us
+
+pub record Fill : Type 0 where
+  pub used : List Bool
+  pub teams : MatchState
+  pub sum : Float
+  pub reference : Float
+
+abbrev pub fillOf : Filling → Fill
+fillOf f = record { used = f .used; teams = matchOf (f .teams); sum = f .sum; reference = f .reference }
+
+abbrev pub opening : Columns → List Bool → ℕ → Fill
+opening c used at =
+    record {
+      used = marked (getD (c .players) at 0) (c .players) used;
+      teams = alone (getD (c .players) at 0);
+      sum = add binary64 Floats.zero (getD (c .rostered) at nan);
+      reference = getD (c .ratings) at nan;
+    }
+
+-- A's running sum with one more rating
+abbrev pub summed : List Float → Fill → ℕ → Float
+summed rostered f at = add binary64 (f .sum) (getD rostered at nan)
+
+unfoldable pub picking : TeamComposition → List ℕ → List Float → Fill → ℕ → Fill
+picking s players rostered f at =
+    cond (takesA s (f .teams))
+    (record {
+      used = marked (getD players at 0) players (f .used);
+      teams = grown s (f .teams) (getD players at 0);
+      sum = summed rostered f at;
+      reference = averageFrom (summed rostered f at) (length (grown s (f .teams) (getD players at 0) .a .players));
+    })
+    (record {
+      used = marked (getD players at 0) players (f .used);
+      teams = grown s (f .teams) (getD players at 0);
+      sum = f .sum;
+      reference = f .reference;
+    })
+
+unfoldable pub filling : TeamComposition → Columns → ℕ → ℕ → Fill → Fill
+filling s c n zero f = f
+filling s c n (suc left) f =
+    cond (leb n (nearestPlace (f .reference) (c .ratings) (f .used) n)) f
+    (filling s c n left (picking s (c .players) (c .rostered) f (nearestPlace (f .reference) (c .ratings) (f .used) n)))
+
+pub record Run : Type 0 where
+  pub used : List Bool
+  pub matches : List MatchState
+
+abbrev pub closing : TeamComposition → Run → Fill → Run
+closing s o f = record { used = f .used; matches = cond (complete s (f .teams)) (o .matches ++ (f .teams ∷ [])) (o .matches) }
+
+unfoldable pub anchoring : TeamComposition → Columns → ℕ → ℕ → Run → Run
+anchoring s c n at o =
+    cond (getD (o .used) at false) o
+    (closing s o (filling s c n (seatsLeft s) (opening c (o .used) at)))
+
+-- nobody is used, and nothing formed
+abbrev pub unmarked : Run
+unmarked = record { used = replicate 64 false; matches = [] }
+
+-- the anchors at the first n places, one after another
+abbrev pub running : TeamComposition → Columns → ℕ → Run → Run
+running s c n o = times (anchoring s c n) o n

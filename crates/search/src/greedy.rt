@@ -1,0 +1,309 @@
+// GreedySearch: an anchor opens a match, and every seat goes to the nearest player who is left.
+ghost use mathlib.Core.Path.{_≡_};
+ghost use mathlib.Core.List.{map};
+ghost use Prim.Native.Nat.{_≤_, _<_};
+ghost use lib.ListN.{length, take};
+ghost use mathlib.Core.Option.{Option·getD};
+ghost use Rattle.base.specs.Floats as Floats;
+ghost use Rattle.base.specs.Refusals.{checkedOf};
+ghost use Rattle.queue.specs.Queue.{queueOf};
+ghost use Rattle.roster.specs.Roster.{ofRatings, observedOf};
+ghost use Rattle.seating.specs.Seating.{Sheets, matchesOf, gathered, leaving};
+ghost use Rattle.search.specs.Greedy.{rosterRating, greedyMatches, greedyCheck, greedyRule};
+ghost use Rattle.search.specs.Steps.{columns, nearestPlace, marked, fillOf, opening, picking, filling, running, unmarked};
+ghost use Rattle.search.specs.Turns.{seatsLeft};
+use base::Checked;
+use base::Refusal;
+use matchmaker::ProposedMatch;
+use queue::Queue;
+use roster::Observed;
+use seating::Formed;
+use seating::Matches;
+use seating::TeamComposition;
+
+// The teams of an anchor while they fill: the marks of used places, A's running sum and the reference rating beside them.
+pub struct Filling {
+    pub used: [bool; 64],
+    pub teams: ProposedMatch,
+    pub sum: f64,
+    pub reference: f64,
+}
+
+// ---- what is read once
+
+// The entry's rating at each place.
+fn ratings_of(queue: Queue) -> [f64; 64]
+    requires { ⌜ queue .len ≤ 64 ⌝ }
+    ensures { λ r. ⌜ take (queue .len) r ≡ map (λ e. e .rating) (queueOf queue .entries) ⌝ }
+{
+    let entries = queue.entries;
+    let n = queue.len;
+    let mut out = [0.0; 64];
+    let mut i: usize = 0;
+    while i < n {
+        let entry = entries[i];
+        out[i] = entry.rating;
+        i += 1;
+    }
+    out
+}
+
+// What was observed, or 0.0.
+fn or_zero(observed: Observed) -> f64
+    ensures { λ r. ⌜ r ≡ Option·getD (observedOf observed) Floats.zero ⌝ }
+{
+    match observed {
+        Observed::Of(x) => x,
+        Observed::Nothing => 0.0,
+    }
+}
+
+// The roster's rating at each place, 0.0 where there is none.
+pub(crate) fn rostered_of(players: &[u64; 64], n: usize, ids: &[u64], ratings: &[f64]) -> [f64; 64]
+    requires { ⌜ n ≤ 64 ⌝ }
+    requires { ⌜ length (now players) ≡ 64 ⌝ }
+    ensures { λ r. ⌜ take n r ≡ map (rosterRating (ofRatings (now (ids .entry)) (now (ratings .entry)))) (take n (now (players .entry))) ⌝ }
+{
+    let mut out = [0.0; 64];
+    let mut i: usize = 0;
+    while i < n {
+        out[i] = or_zero(roster::observation(ids, ratings, players[i]));
+        i += 1;
+    }
+    out
+}
+
+// ---- one anchor
+
+// The place of the nearest unused entry among the first n, or n.
+fn pick_nearest(reference: f64, ratings: &[f64; 64], used: &[bool; 64], n: usize) -> usize
+    requires { ⌜ n ≤ 64 ⌝ }
+    ensures { λ r. ⌜ r ≡ nearestPlace reference (now (ratings .entry)) (now (used .entry)) n ⌝ }
+{
+    let mut best = n;
+    let mut smallest = 1.0 / 0.0;
+    let mut i: usize = 0;
+    while i < n {
+        if used[i] {
+            i += 1;
+        } else {
+            let distance = base::abs(reference - ratings[i]);
+            if distance < smallest {
+                best = i;
+                smallest = distance;
+                i += 1;
+            } else {
+                i += 1;
+            }
+        }
+    }
+    best
+}
+
+// The marks with every place of the player.
+fn mark(players: &[u64; 64], used: [bool; 64], player: u64) -> [bool; 64]
+    requires { ⌜ length (now players) ≡ 64 ⌝ }
+    ensures { λ r. ⌜ r ≡ marked player (now (players .entry)) used ⌝ }
+{
+    let mut out = used;
+    let mut i: usize = 0;
+    while i < 64 {
+        if players[i] == player {
+            out[i] = true;
+            i += 1;
+        } else {
+            i += 1;
+        }
+    }
+    out
+}
+
+// The anchor at a place is used and opens team A.
+fn open(
+    players: &[u64; 64],
+    ratings: &[f64; 64],
+    rostered: &[f64; 64],
+    used: [bool; 64],
+    at: usize,
+) -> Filling
+    requires { ⌜ at < 64 ⌝ }
+    requires { ⌜ length (now players) ≡ 64 ⌝ }
+    ensures { λ r. ⌜ fillOf r ≡ opening (columns (now (players .entry)) (now (ratings .entry)) (now (rostered .entry))) used at ⌝ }
+{
+    let player = players[at];
+    Filling {
+        used: mark(players, used, player),
+        teams: crate::opened(player),
+        sum: 0.0 + rostered[at],
+        reference: ratings[at],
+    }
+}
+
+// The pick at a place takes a seat; after a pick of A's the reference becomes A's average.
+fn pick(
+    sizes: TeamComposition,
+    players: &[u64; 64],
+    rostered: &[f64; 64],
+    filling: Filling,
+    at: usize,
+) -> Filling
+    requires { ⌜ (sizes .a ≤ 8) × ((sizes .b ≤ 8) × (at < 64)) ⌝ }
+    requires { ⌜ length (now players) ≡ 64 ⌝ }
+    ensures { λ r. ⌜ fillOf r ≡ picking sizes (now (players .entry)) (now (rostered .entry)) (fillOf filling) at ⌝ }
+{
+    let player = players[at];
+    let marks = filling.used;
+    let used = mark(players, marks, player);
+    let before = filling.teams;
+    let teams = crate::seat_next(sizes, before, player);
+    if crate::takes_a(sizes, before) {
+        let sum = filling.sum + rostered[at];
+        let a = teams.a;
+        return Filling {
+            used: used,
+            teams: teams,
+            sum: sum,
+            reference: matchmaker::average(sum, a.held()),
+        };
+    }
+    Filling {
+        used: used,
+        teams: teams,
+        sum: filling.sum,
+        reference: filling.reference,
+    }
+}
+
+// The anchor at a place, with a pick for each seat that is left, as long as there is one.
+fn fill(
+    sizes: TeamComposition,
+    players: &[u64; 64],
+    ratings: &[f64; 64],
+    rostered: &[f64; 64],
+    n: usize,
+    used: [bool; 64],
+    at: usize,
+) -> Filling
+    requires { ⌜ (sizes .a ≤ 8) × ((sizes .b ≤ 8) × ((n ≤ 64) × (at < 64))) ⌝ }
+    requires { ⌜ length (now players) ≡ 64 ⌝ }
+    ensures { λ r. ⌜ fillOf r ≡ filling sizes (columns (now (players .entry)) (now (ratings .entry)) (now (rostered .entry))) n (seatsLeft sizes) (opening (columns (now (players .entry)) (now (ratings .entry)) (now (rostered .entry))) used at) ⌝ }
+{
+    let mut out = open(players, ratings, rostered, used, at);
+    let mut left = crate::seats_left(sizes);
+    while 0 < left {
+        let marks = out.used;
+        let next = pick_nearest(out.reference, ratings, &marks, n);
+        if n <= next {
+            return out;
+        }
+        out = pick(sizes, players, rostered, out, next);
+        left -= 1;
+    }
+    out
+}
+
+// ---- all anchors
+
+// The matches of the anchors at the first n places.
+fn match_all(
+    sizes: TeamComposition,
+    players: &[u64; 64],
+    ratings: &[f64; 64],
+    rostered: &[f64; 64],
+    n: usize,
+) -> Matches
+    requires { ⌜ (sizes .a ≤ 8) × ((sizes .b ≤ 8) × (n ≤ 64)) ⌝ }
+    requires { ⌜ length (now players) ≡ 64 ⌝ }
+    ensures { λ r. ⌜ matchesOf r ≡ gathered (running sizes (columns (now (players .entry)) (now (ratings .entry)) (now (rostered .entry))) n unmarked .matches) ⌝ }
+{
+    let mut used = [false; 64];
+    let mut items = [crate::opened(0); 64];
+    let mut len: usize = 0;
+    let mut i: usize = 0;
+    while i < n {
+        if used[i] {
+            i += 1;
+        } else {
+            let filled = fill(sizes, players, ratings, rostered, n, used, i);
+            let teams = filled.teams;
+            used = filled.used;
+            if crate::is_complete(sizes, teams) {
+                items[len] = teams;
+                len += 1;
+                i += 1;
+            } else {
+                i += 1;
+            }
+        }
+    }
+    Matches {
+        items: items,
+        len: len,
+    }
+}
+
+// The matches of the queue.
+pub(crate) fn matches(sizes: TeamComposition, queue: Queue, ids: &[u64], ratings: &[f64]) -> Matches
+    requires { ⌜ (sizes .a ≤ 8) × ((sizes .b ≤ 8) × (queue .len ≤ 64)) ⌝ }
+    ensures { λ r. ⌜ matchesOf r ≡ gathered (greedyMatches sizes (ofRatings (now (ids .entry)) (now (ratings .entry))) (queueOf queue .entries)) ⌝ }
+{
+    let n = queue.len;
+    let players = crate::players_of(queue);
+    let entered = ratings_of(queue);
+    let rostered = rostered_of(&players, n, ids, ratings);
+    match_all(sizes, &players, &entered, &rostered, n)
+}
+
+// Refusals 1, 2, 3 and 4 of what a search is given.
+pub fn check(
+    queue: Queue,
+    sizes: TeamComposition,
+    ids: &[u64],
+    ratings: &[f64],
+    players: usize,
+    qualities: usize,
+) -> Checked
+    ensures { λ r. ⌜ checkedOf r ≡ greedyCheck sizes (ofRatings (now (ids .entry)) (now (ratings .entry))) (queueOf queue) players qualities ⌝ }
+{
+    if 64 < queue.len {
+        return Checked::Refused(Refusal::OverLimit);
+    }
+    if sizes.is_over() {
+        return Checked::Refused(Refusal::OverLimit);
+    }
+    if let Checked::Refused(refusal) = roster::check_ratings(ids, ratings) {
+        return Checked::Refused(refusal);
+    }
+    if seating::are_short(players, qualities) {
+        return Checked::Refused(Refusal::ShortSheet);
+    }
+    if queue.has_late() {
+        return Checked::Refused(Refusal::Clock);
+    }
+    Checked::Passed
+}
+
+// The matches of the queue, written to the sheets with their qualities.
+pub fn search(
+    queue: Queue,
+    sizes: TeamComposition,
+    ids: &[u64],
+    ratings: &[f64],
+    players: &mut [u64],
+    qualities: &mut [f64],
+) -> Formed
+    ensures { λ r. ⌜ leaving r (now (players .exit)) (now (qualities .exit)) ≡ greedyRule sizes (ofRatings (now (ids .entry)) (now (ratings .entry))) (queueOf queue) (record { players = now (players .entry); qualities = now (qualities .entry) }) ⌝ }
+{
+    if let Checked::Refused(refusal) = check(
+        queue,
+        sizes,
+        ids,
+        ratings,
+        players.len(),
+        qualities.len(),
+    ) {
+        return Formed::Refused(refusal);
+    }
+    let found = matches(sizes, queue, ids, ratings);
+    Formed::Count(found.hand_out(ids, ratings, players, qualities))
+}
