@@ -3,3 +3,4 @@ pub mod Queues
 pub mod Scores
 pub mod Rules
 pub mod Selections
+pub mod Searches

@@ -15,3 +15,6 @@ pub mod rules;
 
 // The four selections.
 pub mod selections;
+
+// Searches and generators.
+pub mod searches;

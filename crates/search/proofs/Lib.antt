@@ -4,4 +4,4 @@ pub mod Seating
 pub mod Picks
 pub mod Seats
 pub mod Until
-pub mod Limits
+pub mod Checked

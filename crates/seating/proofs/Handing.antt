@@ -1,37 +1,33 @@
--- What is handed out: a refusal leaves the sheets as they came, and matches that fit on them stand there whole.
+-- What a call hands out: a refusal beside untouched sheets, or matches written to sheets that have room for them.
 use Prim.Native.Nat.{ℕ, _≤_}
-use mathlib.Core.Path.{_≡_, refl, sym, ap, _∙_}
+use mathlib.Core.Path.{_≡_, ap, _∙_}
 use mathlib.Core.List.{List, map}
-use native.Mathlib.Omega.{arith}
 use lib.Ieee.{Float}
 use lib.ListN.{length, length-map}
-use Rattle.base.specs.Refusals.{Outcome, refused, gives, guarded, refusalNumber, checkedOf}
 use Rattle.base.specs.declared.Checked.{Checked}
 use Rattle.base.specs.declared.Checked.the-variants.{Passed, Refused}
 use Rattle.base.specs.declared.Refusal.{Refusal}
-use Rattle.roster.specs.Roster.{Roster}
-use Rattle.matchmaker.specs.Quality.{MatchState, qualityOf}
-use Rattle.seating.specs.Seating.{Sheets, HandedOut, seats, headed, handedOut, leaving}
-use Rattle.seating.specs.Steps.{overlaid, RatedOut}
-use Rattle.seating.specs.declared.Formed.the-variants as Formed
+use Rattle.base.specs.Refusals.{Outcome, refused, gives, guarded, refusalNumber, checkedOf}
+use Rattle.base.proofs.Checks.{guard-refuses, guard-passes}
+use Rattle.matchmaker.specs.Quality.{MatchState}
+use Rattle.seating.specs.Seating.{Sheets, HandedOut, seats, handedOut}
+use Rattle.seating.specs.Steps.{overlaid}
 use Rattle.seating.proofs.Laws.{overlaid-fits}
 
-module _ (quality : MatchState → Float) (ms : Outcome (List MatchState)) (players : List ℕ) (qualities : List Float) (k : Checked) {o : Outcome Unit} where
-  -- a check that refuses: its refusal, and the sheets as they came
-  pub hand-refused : {x : Refusal} → k ≡ Refused x → checkedOf k ≡ o → leaving (Formed.Refused x) players qualities ≡ handedOut quality (guarded o ms) (record { players = players; qualities = qualities })
-  hand-refused e h = rw (← h, e)
+module _ (quality : MatchState → Float) (s : Sheets) where
+  module _ (v : Outcome (List MatchState)) (k : Checked) {o : Outcome Unit} (h : checkedOf k ≡ o) where
+    -- a check that refuses is handed out, and the sheets stay
+    pub handed-refused : {x : Refusal} → k ≡ Refused x → record { answer = refused (refusalNumber x); sheets = s } ≡ handedOut quality (guarded o v) s
+    handed-refused e = ap (λ (w : Outcome (List MatchState)). handedOut quality w s) (guard-refuses v k e h)
 
-  -- a check that passes: what comes behind it
-  pub hand-passed : k ≡ Passed → checkedOf k ≡ o → {d : HandedOut} → d ≡ handedOut quality ms (record { players = players; qualities = qualities }) → d ≡ handedOut quality (guarded o ms) (record { players = players; qualities = qualities })
-  hand-passed e h f = rw (← h, e) f
+    -- a check that passes leaves it to what comes behind it
+    pub handed-on : {w : HandedOut} → k ≡ Passed → w ≡ handedOut quality v s → w ≡ handedOut quality (guarded o v) s
+    handed-on e g = g ∙ ap (λ (u : Outcome (List MatchState)). handedOut quality u s) (guard-passes v k e h)
 
--- sheets with rows that fit hold the rows whole
-pub hand-written : (quality : MatchState → Float) (ms : List MatchState) (players players' : List ℕ) (qualities qualities' : List Float) (n : ℕ) → n ≡ length ms → players' ≡ overlaid (seats ms) players → qualities' ≡ overlaid (map quality ms) qualities → length (seats ms) ≤ length players → length ms ≤ length qualities → leaving (Formed.Count n) players' qualities' ≡ handedOut quality (gives ms) (record { players = players; qualities = qualities })
-hand-written quality ms players players' qualities qualities' n e p q f g =
-    let fits : length (map quality ms) ≤ length qualities = omega (arith, length-map ms quality) in
-    rw (e, p ∙ overlaid-fits (seats ms) players f, q ∙ overlaid-fits (map quality ms) qualities fits)
-
--- matches handed out with their qualities
-pub hand-rated : (r : Roster) (ms : List MatchState) (players players' : List ℕ) (qualities qualities' : List Float) (n : ℕ) → RatedOut r ms players qualities n players' qualities' → length (seats ms) ≤ length players → length ms ≤ length qualities → leaving (Formed.Count n) players' qualities' ≡ handedOut (λ m. qualityOf r (m .a .players) (m .b .players)) (gives ms) (record { players = players; qualities = qualities })
-hand-rated r ms players players' qualities qualities' n h f g =
-    hand-written (λ m. qualityOf r (m .a .players) (m .b .players)) ms players players' qualities qualities' n (h .count) (h .seated) (h .rated) f g
+  -- matches whose players and qualities both have room stand at the front of the sheets
+  pub handed-out : (ms : List MatchState) {n : ℕ} {players : List ℕ} {row qualities : List Float} → n ≡ length ms → length (seats ms) ≤ length (s .players) → length ms ≤ length (s .qualities) → players ≡ overlaid (seats ms) (s .players) → row ≡ map quality ms → qualities ≡ overlaid row (s .qualities) → record { answer = gives n; sheets = record { players = players; qualities = qualities } } ≡ handedOut quality (gives ms) s
+  handed-out ms e room space p h q =
+      let l : length (map quality ms) ≤ length (s .qualities) = rw (length-map ms quality) space in
+      let a = p ∙ overlaid-fits (seats ms) (s .players) room in
+      let b = q ∙ ap (λ (r : List Float). overlaid r (s .qualities)) h ∙ overlaid-fits (map quality ms) (s .qualities) l in
+      rw (e, a, b)
