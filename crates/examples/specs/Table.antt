@@ -1,33 +1,77 @@
 -- Document 01, "At the table": the starred lines, as one theorem that ranges over a list of them.
+use Prim.Native.Nat.{ℕ}
 use mathlib.Core.Path.{_≡_, refl}
 use mathlib.Core.Bool.{false}
-use mathlib.Core.List.{List, [], _∷_}
+use mathlib.Core.List.{List, [], _∷_, map}
+use mathlib.Core.Option.{some}
 use lib.Ieee.{Float, nan, binary64, add, sub, mul, div, lt, le, eq, ne, neg, round, ofInt, ofBits}
 use Rattle.base.specs.Floats.{zero, one, absOf, minOf}
-use Rattle.base.specs.Lists.{All}
-use Rattle.matchmaker.specs.Quality.{fourHundred, qualityAt}
+use Rattle.base.specs.Lists.{All, seek, keep}
+use Rattle.queue.specs.declared.QueueEntry.{QueueEntry}
+use Rattle.roster.specs.Roster.{Roster, ofRatings, observe}
+use Rattle.matchmaker.specs.Quality.{MatchState, fourHundred, qualityAt, qualityOf, observations, averageFrom}
 use Rattle.objective.specs.Pareto.{anyBelow, dominatesOf, zeros}
 use Rattle.objective.specs.declared.pareto.MatchObjectiveVector.{MatchObjectiveVector}
+use Rattle.seating.specs.declared.TeamComposition.{TeamComposition}
+use Rattle.seating.specs.Seating.{lineup}
+use Rattle.search.specs.Turns.{grown}
+use Rattle.search.specs.Greedy.{closer, nearest, filled, anchored, greedyMatches}
 
--- 100.0 and 0.75
+-- 100.0, 0.75, and the ratings of the table's guests and of the entries about 1000
 abbrev hundred : Float
 hundred = ofBits binary64 0x4059_0000_0000_0000
 
 abbrev threeQuarters : Float
 threeQuarters = ofBits binary64 0x3fe8_0000_0000_0000
 
+abbrev thousand : Float
+thousand = ofBits binary64 0x408f_4000_0000_0000
+
+abbrev r1280 : Float
+r1280 = ofBits binary64 0x4094_0000_0000_0000
+
+abbrev r1010 : Float
+r1010 = ofBits binary64 0x408f_9000_0000_0000
+
+abbrev r1090 : Float
+r1090 = ofBits binary64 0x4091_0800_0000_0000
+
+abbrev r990 : Float
+r990 = ofBits binary64 0x408e_f000_0000_0000
+
+-- an entry of a guest with a rating, who waits since 0 with no party and no role
+abbrev entry : ℕ → Float → QueueEntry
+entry player rating = record { player = player; joined = 0; rating = rating; party = 0; role = 0 }
+
+-- "Guests 1 to 4, ratings 1000, 1280, 1010, 1090, all rostered."
+abbrev guests : List QueueEntry
+guests = entry 1 thousand ∷ entry 2 r1280 ∷ entry 3 r1010 ∷ entry 4 r1090 ∷ []
+
+abbrev rostered : Roster
+rostered = ofRatings (1 ∷ 2 ∷ 3 ∷ 4 ∷ []) (thousand ∷ r1280 ∷ r1010 ∷ r1090 ∷ [])
+
+abbrev sizes : ℕ → ℕ → TeamComposition
+sizes a b = record { a = a; b = b }
+
 pub data Line : Type 0 where
   -- a difference of averages, and its quality
   difference : Float → Float → Line
   -- a vector against itself
   equalVectors : MatchObjectiveVector → Line
+  -- greedy search by these sizes among the table's guests: the matches and their qualities
+  greedy : TeamComposition → List MatchState → List Float → Line
+  -- the entry picked for a reference rating
+  pick : Float → List QueueEntry → QueueEntry → Line
 
 -- what a line says
 abbrev pub Holds : Line → Type 0
 Holds (difference d q) = qualityAt d ≡ q
 Holds (equalVectors v) = dominatesOf v v ≡ false
+Holds (greedy s ms qs) = (greedyMatches s rostered guests ≡ ms) × (map (λ m. qualityOf rostered (m .a .players) (m .b .players)) ms ≡ qs)
+Holds (pick reference queue e) = nearest reference [] queue ≡ some e
 
--- "Differences 0, 100, 400, NaN: 1.0, 0.75, 0.0, 0.0." "Equal vectors do not dominate."
+-- "Differences 0, 100, 400, NaN: 1.0, 0.75, 0.0, 0.0." "Equal vectors do not dominate." "Greedy 2+2: A {1, 4}, B {3, 2}, quality
+-- 0.75." "Reference 1000, entries 1010 then 990: 1010." "Greedy 0+1: none."
 abbrev pub lines : List Line
 lines =
     difference zero one
@@ -36,8 +80,11 @@ lines =
     ∷ difference nan zero
     ∷ equalVectors zeros
     ∷ equalVectors (record { skill = one; role = hundred; latency = nan; party = threeQuarters; wait = hundred; utilization = nan })
+    ∷ greedy (sizes 2 2) (lineup (1 ∷ 4 ∷ []) (3 ∷ 2 ∷ []) ∷ []) (threeQuarters ∷ [])
+    ∷ greedy (sizes 0 1) [] []
+    ∷ pick thousand (entry 1 r1010 ∷ entry 2 r990 ∷ []) (entry 1 r1010)
     ∷ []
 
 pub at-the-table : All Holds lines
-unfolding qualityAt absOf minOf dominatesOf anyBelow div sub lt le eq ne ofBits round
-at-the-table = (refl, (refl, (refl, (refl, (refl, (refl, tt))))))
+unfolding qualityAt absOf minOf dominatesOf anyBelow seek keep observe observations averageFrom closer grown filled anchored add div sub lt le eq ne ofInt ofBits round
+at-the-table = (refl, (refl, (refl, (refl, (refl, (refl, ((refl, refl), ((refl, refl), (refl, tt)))))))))
