@@ -1,2 +1,5 @@
+pub mod Choices
+pub mod Exhaustive
+pub mod Walks
 pub mod Nearest
 pub mod Steps

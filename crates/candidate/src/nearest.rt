@@ -137,7 +137,7 @@ fn cut(sizes: TeamComposition, limit: usize, players: [u64; 64], n: usize) -> Ma
     ensures { λ r. ⌜ matchesOf r ≡ gathered (chunks sizes limit (take n players)) ⌝ }
 {
     let seats = sizes.a + sizes.b;
-    let mut items = [match_none(); 64];
+    let mut items = [seating::nobody(); 64];
     let mut len: usize = 0;
     let mut at: usize = 0;
     while at + seats <= n {
@@ -154,20 +154,6 @@ fn cut(sizes: TeamComposition, limit: usize, players: [u64; 64], n: usize) -> Ma
     Matches {
         items: items,
         len: len,
-    }
-}
-
-// A match of nobody.
-fn match_none() -> ProposedMatch
-    ensures { λ r. ⌜ matchOf r ≡ lineup [] [] ⌝ }
-{
-    let nobody = Team {
-        players: [0; 8],
-        len: 0,
-    };
-    ProposedMatch {
-        a: nobody,
-        b: nobody,
     }
 }
 

@@ -181,6 +181,21 @@ impl Queue {
         Checked::Passed
     }
 
+    // The player at each place, read once.
+    pub fn players(self) -> Players
+        ensures { λ r. ⌜ r .ids ≡ map (λ e. e .player) (self .entries) ⌝ }
+    {
+        let entries = self.entries;
+        let mut ids = [0; 64];
+        let mut i: usize = 0;
+        while i < 64 {
+            let e = entries[i];
+            ids[i] = e.player;
+            i += 1;
+        }
+        Players { ids: ids }
+    }
+
     // Is a joined time late? Whatever length is stated.
     pub fn has_late(self) -> bool
         ensures { λ r. ⌜ r ≡ any isLate (queueOf self .entries) ⌝ }

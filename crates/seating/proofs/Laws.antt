@@ -4,17 +4,18 @@ use mathlib.Core.Path.{_≡_, refl, sym, ap, _∙_}
 use mathlib.Core.List.{List, [], _∷_, _++_, map, map-map, append-assoc}
 use native.Mathlib.Nat.{le-of-suc-le-suc, not-suc-le-zero, zero-mul, suc-mul}
 use native.Mathlib.Omega.{arith}
-use lib.ListN.{length, take, drop, getD, length-append, length-take, length-drop, length-map, take-append-drop}
+use borrow.Author.Tests.{lt-ltb, le-ltb}
+use lib.ListN.{length, take, drop, getD, set, length-append, length-take, length-drop, length-map, take-append-drop}
 use lib.Seq.{length-take-le, take-take, take-append-add, drop-append-add}
 use borrow.Rule.Slice.PartMut.{putMid}
 use Rattle.base.specs.Lists.{All}
-use Rattle.base.proofs.Arrays.{peel, peeled, all-held}
+use Rattle.base.proofs.Arrays.{peel, peeled, push, all-held}
 use Rattle.base.proofs.Sheets.{rest, put-rest}
 use Rattle.matchmaker.specs.declared.ProposedMatch.{ProposedMatch}
-use Rattle.matchmaker.specs.Quality.{MatchState, matchOf, seated}
+use Rattle.matchmaker.specs.Quality.{TeamState, MatchState, matchOf, seated}
 use Rattle.seating.specs.declared.Matches.{Matches}
-use Rattle.seating.specs.Seating.{seats, headed, matchesOf}
-use Rattle.seating.specs.Steps.{overlaid}
+use Rattle.seating.specs.Seating.{team, seats, headed, matchesOf}
+use Rattle.seating.specs.Steps.{overlaid, joinedTo}
 
 -- ---- a row over the front of a sheet
 
@@ -88,6 +89,25 @@ module _ {A : Type 0} where
       let u : take (at + k) m ≡ take at d ++ take k t = ap (take (at + k)) f ∙ ap (λ (j : ℕ). take (j + k) (take at d ++ t)) (sym a) ∙ take-append-add (take at d) t k in
       let v : drop (at + k) m ≡ drop k t = ap (drop (at + k)) f ∙ ap (λ (j : ℕ). drop (j + k) (take at d ++ t)) (sym a) ∙ drop-append-add (take at d) t k in
       rw (u, v, append-assoc (take at d) (take k t) (overlaid ys (drop k t)), overlaid-append xs ys (drop at d) k g)
+
+-- ---- one more player in a team
+
+-- n is how many the team holds
+module _ (len : ℕ) (ps : List ℕ) (n p : ℕ) (held : n ≡ length (take len ps)) where
+  -- a player behind those whom the team holds
+  pub joined-team : n < length ps → _≡_ {A = TeamState} (record { size = n + 1; players = take (n + 1) (set ps n p) }) (team (take len ps ++ (p ∷ [])))
+  joined-team room =
+      let e : take (n + 1) (set ps n p) ≡ take len ps ++ (p ∷ []) = push ps n p room ∙ ap (λ (r : List ℕ). r ++ (p ∷ [])) (all-held len ps held) in
+      let k : n + 1 ≡ length (take len ps ++ (p ∷ [])) = omega (arith, length-append (take len ps) (p ∷ [])) in
+      λ j. record { size = k j; players = e j }
+
+  -- a team with a free place takes the player
+  pub joined-short : length ps ≡ 8 → n < 8 → _≡_ {A = TeamState} (record { size = n + 1; players = take (n + 1) (set ps n p) }) (joinedTo (record { size = len; players = take len ps }) p)
+  joined-short w h = rw (← held, lt-ltb n 8 h) (joined-team (omega arith))
+
+  -- a full team stays as it is
+  pub joined-full : 8 ≤ n → _≡_ {A = TeamState} (record { size = len; players = take len ps }) (joinedTo (record { size = len; players = take len ps }) p)
+  joined-full h = rw (← held, le-ltb n 8 h)
 
 -- ---- everyone whom matches seat
 

@@ -54,6 +54,20 @@ pub fn are_short(players: usize, qualities: usize) -> bool
 
 // ---- teams
 
+// The team with one more player; a team of 8 takes no more.
+pub fn joined(side: Team, player: u64) -> Team
+    ensures { λ r. ⌜ teamOf r ≡ joinedTo (teamOf side) player ⌝ }
+{
+    let n = side.held();
+    if 8 <= n {
+        return side;
+    }
+    let mut longer = side;
+    longer.players[n] = player;
+    longer.len = n + 1;
+    longer
+}
+
 // Nobody seated.
 pub fn nobody() -> ProposedMatch
     ensures { λ r. ⌜ matchOf r ≡ lineup [] [] ⌝ }

@@ -20,8 +20,8 @@ abbrev μ-loop : tie.MeasureT-loop
 add-seats : tie.Need-add-seats Inv-loop μ-loop
 add-seats c = search needs
 
-match-none-requires : tie.Need-match-none-requires Inv-loop μ-loop
-match-none-requires c κs = search needs
+nobody-requires : tie.Need-nobody-requires Inv-loop μ-loop
+nobody-requires c κs = search needs
 
 loop-holds : tie.Need-loop-holds Inv-loop μ-loop
 loop-holds c =
@@ -75,7 +75,7 @@ cut-spec =
     Inv-loop
     μ-loop
     add-seats
-    match-none-requires
+    nobody-requires
     loop-holds
     add-loop
     returns
