@@ -5,6 +5,7 @@ ghost use Rattle.queue.specs.Queue.{queueOf};
 ghost use Rattle.roster.specs.Roster.{ofRatings};
 ghost use Rattle.seating.specs.Seating.{formedOf};
 ghost use Rattle.search.specs.Greedy.{greedyRule};
+ghost use Rattle.candidate.specs.Exhaustive.{exhaustiveRule};
 ghost use Rattle.candidate.specs.Nearest.{nearestRule};
 ghost use Rattle.capi.specs.Searches.{formedNumbers, sheets, SearchNumbers};
 use candidate::nearest::GreedyNearestGenerator;
@@ -60,4 +61,16 @@ pub extern "C" fn yilgashe_generate_nearest(
     ensures { λ r. ⌜ SearchNumbers (nearestRule (generator .max) sizes (ofRatings (now (ids .entry)) (now (ratings .entry))) (queueOf queue) (sheets (now (players .entry)) (now (qualities .entry)))) r (now (players .exit)) (now (qualities .exit)) ⌝ }
 {
     in_numbers(generator.generate_candidates(queue, sizes, ids, ratings, players, qualities))
+}
+
+#[no_mangle]
+pub extern "C" fn yilgashe_generate_exhaustive(
+    queue: Queue,
+    sizes: TeamComposition,
+    players: &mut [u64],
+    qualities: &mut [f64],
+) -> Formed
+    ensures { λ r. ⌜ SearchNumbers (exhaustiveRule sizes (queueOf queue) (sheets (now (players .entry)) (now (qualities .entry)))) r (now (players .exit)) (now (qualities .exit)) ⌝ }
+{
+    in_numbers(candidate::exhaustive::generate_candidates(queue, sizes, players, qualities))
 }

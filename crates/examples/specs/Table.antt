@@ -5,6 +5,7 @@ use mathlib.Core.Bool.{false}
 use mathlib.Core.List.{List, [], _∷_, map}
 use mathlib.Core.Option.{some}
 use lib.Ieee.{Float, nan, binary64, add, sub, mul, div, lt, le, eq, ne, neg, round, ofInt, ofBits}
+use lib.ListN.{take}
 use Rattle.base.specs.Floats.{zero, one, absOf, minOf}
 use Rattle.base.specs.Lists.{All, seek, keep}
 use Rattle.queue.specs.declared.QueueEntry.{QueueEntry}
@@ -15,6 +16,8 @@ use Rattle.objective.specs.declared.pareto.MatchObjectiveVector.{MatchObjective
 use Rattle.seating.specs.declared.TeamComposition.{TeamComposition}
 use Rattle.seating.specs.Seating.{lineup}
 use Rattle.search.specs.Turns.{grown}
+use Rattle.candidate.specs.Choices.{choices}
+use Rattle.candidate.specs.Exhaustive.{exhaustiveMatches}
 use Rattle.search.specs.Greedy.{closer, nearest, filled, anchored, greedyMatches}
 
 -- 100.0, 0.75, and the ratings of the table's guests and of the entries about 1000
@@ -53,6 +56,9 @@ rostered = ofRatings (1 ∷ 2 ∷ 3 ∷ 4 ∷ []) (thousand ∷ r1280 ∷ r1010 
 abbrev sizes : ℕ → ℕ → TeamComposition
 sizes a b = record { a = a; b = b }
 
+abbrev pair : ℕ → ℕ → MatchState
+pair p q = lineup (p ∷ []) (q ∷ [])
+
 pub data Line : Type 0 where
   -- a difference of averages, and its quality
   difference : Float → Float → Line
@@ -60,6 +66,8 @@ pub data Line : Type 0 where
   equalVectors : MatchObjectiveVector → Line
   -- greedy search by these sizes among the table's guests: the matches and their qualities
   greedy : TeamComposition → List MatchState → List Float → Line
+  -- the exhaustive listing of some guests by these sizes
+  exhaustive : TeamComposition → List QueueEntry → List MatchState → Line
   -- the entry picked for a reference rating
   pick : Float → List QueueEntry → QueueEntry → Line
 
@@ -68,10 +76,12 @@ abbrev pub Holds : Line → Type 0
 Holds (difference d q) = qualityAt d ≡ q
 Holds (equalVectors v) = dominatesOf v v ≡ false
 Holds (greedy s ms qs) = (greedyMatches s rostered guests ≡ ms) × (map (λ m. qualityOf rostered (m .a .players) (m .b .players)) ms ≡ qs)
+Holds (exhaustive s queue ms) = exhaustiveMatches s queue ≡ ms
 Holds (pick reference queue e) = nearest reference [] queue ≡ some e
 
 -- "Differences 0, 100, 400, NaN: 1.0, 0.75, 0.0, 0.0." "Equal vectors do not dominate." "Greedy 2+2: A {1, 4}, B {3, 2}, quality
--- 0.75." "Reference 1000, entries 1010 then 990: 1010." "Greedy 0+1: none."
+-- 0.75." "Greedy 0+1: none." "Exhaustive 2+2: A {1, 2}, B {3, 4} only." "Exhaustive 1+1 of guests 1, 2, 3: (1,2), (1,3), (2,3)."
+-- "Reference 1000, entries 1010 then 990: 1010."
 abbrev pub lines : List Line
 lines =
     difference zero one
@@ -82,9 +92,11 @@ lines =
     ∷ equalVectors (record { skill = one; role = hundred; latency = nan; party = threeQuarters; wait = hundred; utilization = nan })
     ∷ greedy (sizes 2 2) (lineup (1 ∷ 4 ∷ []) (3 ∷ 2 ∷ []) ∷ []) (threeQuarters ∷ [])
     ∷ greedy (sizes 0 1) [] []
+    ∷ exhaustive (sizes 2 2) guests (lineup (1 ∷ 2 ∷ []) (3 ∷ 4 ∷ []) ∷ [])
+    ∷ exhaustive (sizes 1 1) (take 3 guests) (pair 1 2 ∷ pair 1 3 ∷ pair 2 3 ∷ [])
     ∷ pick thousand (entry 1 r1010 ∷ entry 2 r990 ∷ []) (entry 1 r1010)
     ∷ []
 
 pub at-the-table : All Holds lines
-unfolding qualityAt absOf minOf dominatesOf anyBelow seek keep observe observations averageFrom closer grown filled anchored add div sub lt le eq ne ofInt ofBits round
-at-the-table = (refl, (refl, (refl, (refl, (refl, (refl, ((refl, refl), ((refl, refl), (refl, tt)))))))))
+unfolding qualityAt absOf minOf dominatesOf anyBelow seek keep observe observations averageFrom closer grown filled anchored choices add div sub lt le eq ne ofInt ofBits round
+at-the-table = (refl, (refl, (refl, (refl, (refl, (refl, ((refl, refl), ((refl, refl), (refl, (refl, (refl, tt)))))))))))
