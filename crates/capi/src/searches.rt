@@ -2,14 +2,17 @@
 // for each match; what stands behind them is untouched.
 ghost use mathlib.Core.Path.{_≡_};
 ghost use Rattle.queue.specs.Queue.{queueOf};
-ghost use Rattle.roster.specs.Roster.{ofRatings};
+ghost use Rattle.roster.specs.Roster.{ofRatings, ofDeviations};
 ghost use Rattle.seating.specs.Seating.{formedOf};
+ghost use Rattle.search.specs.Beam.{beamRule};
 ghost use Rattle.search.specs.Greedy.{greedyRule};
 ghost use Rattle.candidate.specs.Exhaustive.{exhaustiveRule};
 ghost use Rattle.candidate.specs.Nearest.{nearestRule};
 ghost use Rattle.capi.specs.Searches.{formedNumbers, sheets, SearchNumbers};
 use candidate::nearest::GreedyNearestGenerator;
+use objective::score::MatchObjective;
 use queue::Queue;
+use search::beam::BeamSearch;
 use seating::TeamComposition;
 
 // How many matches were handed out, 0 where it is refused.
@@ -46,6 +49,34 @@ pub extern "C" fn yilgashe_search_greedy(
     ensures { λ r. ⌜ SearchNumbers (greedyRule sizes (ofRatings (now (ids .entry)) (now (ratings .entry))) (queueOf queue) (sheets (now (players .entry)) (now (qualities .entry)))) r (now (players .exit)) (now (qualities .exit)) ⌝ }
 {
     in_numbers(search::greedy::search(queue, sizes, ids, ratings, players, qualities))
+}
+
+#[no_mangle]
+pub extern "C" fn yilgashe_search_beam(
+    search: BeamSearch,
+    queue: Queue,
+    sizes: TeamComposition,
+    objective: MatchObjective,
+    ids: &[u64],
+    ratings: &[f64],
+    deviations: &[f64],
+    clock: u64,
+    players: &mut [u64],
+    qualities: &mut [f64],
+) -> Formed
+    ensures { λ r. ⌜ SearchNumbers (beamRule sizes (search .width) objective (ofDeviations (now (ids .entry)) (now (ratings .entry)) (now (deviations .entry))) (queueOf queue) clock (sheets (now (players .entry)) (now (qualities .entry)))) r (now (players .exit)) (now (qualities .exit)) ⌝ }
+{
+    in_numbers(search.search(
+        queue,
+        sizes,
+        objective,
+        ids,
+        ratings,
+        deviations,
+        clock,
+        players,
+        qualities,
+    ))
 }
 
 #[no_mangle]

@@ -23,12 +23,7 @@ use Rattle.search.specs.Steps.{Columns, Near, nearer, nearestPlace, mark
 -- ---- arrays filled
 
 module _ {A B : Type 0} (f : A → B) where
-  -- an array filled with what f makes of another's elements: one more
-  pub fill-on : (es : List A) (out : List B) (i : ℕ) (d : A) {y : B} → i < length es → i < length out → take i out ≡ map f (take i es) → y ≡ f (getD es i d) → take (i + 1) (set out i y) ≡ map f (take (i + 1) es)
-  fill-on es out i d {y} h room inv e =
-      push out i y room ∙ rw (inv, e, add-one i, take-suc es i d h) (sym (map-append f (take i es) (getD es i d ∷ [])))
-
-  -- filled up to n
+  -- an array filled with what f makes of another's elements: up to n
   pub fill-end : (es : List A) (out : List B) (i n : ℕ) → n ≤ i → i ≤ n → take i out ≡ map f (take i es) → take n out ≡ map f (take n es)
   fill-end es out i n h k inv =
       let e : n ≡ i = omega arith in

@@ -5,3 +5,10 @@ pub mod Picks
 pub mod Seats
 pub mod Until
 pub mod Checked
+pub mod Best
+pub mod Climbs
+pub mod Ranked
+pub mod Named
+pub mod BeamSeats
+pub mod BeamLevels
+pub mod Sheets

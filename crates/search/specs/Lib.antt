@@ -1,3 +1,5 @@
 pub mod Turns
 pub mod Greedy
+pub mod Beam
 pub mod Steps
+pub mod Levels

@@ -15,6 +15,9 @@ use seating::TeamComposition;
 // GreedySearch: the nearest player for every seat.
 pub mod greedy;
 
+// BeamSearch: the best few partial matches, seat by seat.
+pub mod beam;
+
 // ---- turns
 
 // The team with one more player.

@@ -4,10 +4,10 @@ use mathlib.Core.Path.{_≡_, refl}
 use mathlib.Core.List.{map}
 use native.Mathlib.Omega.{arith}
 use lib.ListN.{length, take, length-set}
-use Rattle.base.proofs.Arrays.{unmapped}
+use Rattle.base.proofs.Arrays.{unmapped, fill-on}
 use Rattle.queue.specs.declared.QueueEntry.{QueueEntry}
 use Rattle.queue.specs.Queue.{noEntry}
-use Rattle.search.proofs.Laws.{fill-on, fill-end}
+use Rattle.search.proofs.Laws.{fill-end}
 use borrow.Author.Needs.{needs}
 use Rattle.search.proofs.greedy.ratings_of.Statement.{statement}
 use Rattle.search.proofs.greedy.ratings_of.Tie as tie

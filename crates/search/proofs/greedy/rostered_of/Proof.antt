@@ -8,7 +8,8 @@ use mathlib.Core.Option.{Option·getD}
 use Rattle.base.specs.Floats as Floats
 use Rattle.roster.specs.Roster.{ofRatings}
 use Rattle.search.specs.Greedy.{rosterRating}
-use Rattle.search.proofs.Laws.{fill-on, fill-end}
+use Rattle.base.proofs.Arrays.{fill-on}
+use Rattle.search.proofs.Laws.{fill-end}
 use borrow.Author.Needs.{needs}
 use Rattle.search.proofs.greedy.rostered_of.Statement.{statement}
 use Rattle.search.proofs.greedy.rostered_of.Tie as tie
