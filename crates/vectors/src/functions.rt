@@ -4,16 +4,19 @@ use crate::words;
 use words::Cursor;
 
 mod as_secs_f64;
+mod beam_search;
 mod check_roster;
 mod constraints;
 mod dominates;
 mod duration_since;
 mod enqueue;
 mod greedy;
+mod greedy_search;
 mod latency;
 mod lexicographic;
 mod match_quality;
 mod match_score;
+mod nearest;
 mod parties;
 mod policy_score;
 mod regions;
@@ -54,11 +57,14 @@ pub fn write_name(code: u64) -> bool {
         22 => io::write_all(1, b"threshold"),
         23 => io::write_all(1, b"lexicographic"),
         24 => io::write_all(1, b"weighted"),
+        25 => io::write_all(1, b"greedy_search"),
+        26 => io::write_all(1, b"nearest"),
+        27 => io::write_all(1, b"beam_search"),
         _ => write_unknown(code),
     }
 }
 
-// `code-25`, or `other` for 0, where lines are counted whose code can't be read or is 32 or more.
+// `code-28`, or `other` for 0, where lines are counted whose code can't be read or is 32 or more.
 fn write_unknown(code: u64) -> bool {
     if code == 0 {
         return io::write_all(1, b"other");
@@ -93,6 +99,9 @@ pub fn replay(text: &[u8], code: u64, inputs: Cursor) -> Cursor {
         22 => threshold::replay(text, inputs),
         23 => lexicographic::replay(text, inputs),
         24 => weighted::replay(text, inputs),
+        25 => greedy_search::replay(text, inputs),
+        26 => nearest::replay(text, inputs),
+        27 => beam_search::replay(text, inputs),
         _ => words::checked(inputs, false),
     }
 }

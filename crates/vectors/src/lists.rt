@@ -12,7 +12,7 @@ pub struct Listed {
 }
 
 // How many words follow, of which there is room for `room`.
-fn size(text: &[u8], from: Cursor, room: usize) -> Listed
+pub fn size(text: &[u8], from: Cursor, room: usize) -> Listed
     ensures { λ r. ⌜ r .len ≤ room ⌝ }
 {
     let read = words::next(text, from);

@@ -49,6 +49,12 @@ mod verdicts;
 // Chosen places of a line.
 mod places;
 
+// Weights of a match's score.
+mod weights;
+
+// Sizes, sheets and matches of a line.
+mod sheets;
+
 // Counts and what is written.
 mod tally;
 

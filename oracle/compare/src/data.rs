@@ -1,8 +1,10 @@
 //! What calls bring besides queues.
 
 mod rules;
+mod searches;
 
 pub use rules::*;
+pub use searches::*;
 
 use std::fmt::{Debug, Formatter, Result};
 

@@ -4,9 +4,11 @@
 
 mod rules;
 mod scores;
+mod searches;
 
 pub use rules::*;
 pub use scores::*;
+pub use searches::*;
 
 use crate::data::Roster;
 use crate::model::{CLOCK_LIMIT, NO_RECORD, QUEUE_LIMIT, ROSTER_LIMIT};

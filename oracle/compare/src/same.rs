@@ -1,5 +1,6 @@
 //! When two answers are the same: floats bit for bit, save that all NaNs are equal and both zeros are equal.
 
+use crate::data::Sheets;
 use yilgashe_sys::{MatchObjectiveVector, Queue, QueueEntry};
 
 pub trait Same {
@@ -68,6 +69,13 @@ impl Same for QueueEntry {
 impl Same for Queue {
     fn same(&self, other: &Self) -> bool {
         self.len == other.len && self.waiting().same(other.waiting())
+    }
+}
+
+/// Whole sheets: what a call leaves untouched counts too.
+impl Same for Sheets {
+    fn same(&self, other: &Self) -> bool {
+        self.players.same(&other.players) && self.qualities.same(&other.qualities)
     }
 }
 
@@ -144,6 +152,24 @@ mod tests {
         other = queue;
         other.len = 66;
         assert!(!queue.same(&other));
+    }
+
+    #[test]
+    fn sheets_count_whole() {
+        let sheets = Sheets {
+            players: vec![1, 2],
+            qualities: vec![f64::NAN, 0.0],
+        };
+        assert!(sheets.same(&sheets.clone()));
+        let mut other = sheets.clone();
+        other.players[1] = 9;
+        assert!(!sheets.same(&other));
+        other = sheets.clone();
+        other.qualities[1] = 9.0;
+        assert!(!sheets.same(&other));
+        other = sheets.clone();
+        other.players.push(9);
+        assert!(!sheets.same(&other));
     }
 
     #[test]

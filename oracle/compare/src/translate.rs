@@ -1,8 +1,10 @@
 //! From the library's plain numbers to the Rust's types, and back.
 
 mod rules;
+mod searches;
 
 pub use rules::*;
+pub use searches::*;
 
 use crate::data::{Columns, Roster};
 use crate::model::NO_RECORD;

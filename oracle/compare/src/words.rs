@@ -1,10 +1,11 @@
 //! The words of stored answers: numbers in hex, one space between.
 
 mod rules;
+mod searches;
 
 use crate::data::Columns;
 use crate::model::{QUEUE_LIMIT, ROSTER_LIMIT, TEAM_LIMIT};
-use yilgashe_sys::{MatchObjectiveVector, ProposedMatch, Queue, QueueEntry, Team};
+use yilgashe_sys::{MatchObjective, MatchObjectiveVector, ProposedMatch, Queue, QueueEntry, Team};
 
 /// A line holds at most this many.
 pub const LINE_LIMIT: usize = 1000;
@@ -88,6 +89,13 @@ impl Words {
         for floats in [&columns.ratings].into_iter().chain(&columns.deviations) {
             self.column(floats.iter().map(|float| float.to_bits()));
         }
+    }
+
+    pub fn objective(&mut self, weights: &MatchObjective) {
+        self.float(weights.quality);
+        self.float(weights.wait);
+        self.float(weights.ping);
+        self.float(weights.uncertainty);
     }
 
     pub fn vector(&mut self, vector: &MatchObjectiveVector) {

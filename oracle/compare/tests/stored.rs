@@ -831,3 +831,225 @@ mod rules {
         assert!(seen[0] > 150 && seen[5] > 3, "{seen:?}");
     }
 }
+
+/// Lines of searches and generators, their answers computed anew from document 01.
+mod searches {
+    use super::{Entry, Reader, lines};
+    use compare::same::Same;
+
+    /// Ids, then floats as bits.
+    type Columns = Vec<Vec<u64>>;
+    /// Teams one after the other, their qualities.
+    type Formed = (Vec<u64>, Vec<f64>);
+
+    struct Search {
+        queue: Option<Vec<Entry>>,
+        sizes: [u64; 2],
+    }
+
+    fn search(line: &mut Reader) -> Search {
+        Search {
+            queue: line.queue(),
+            sizes: [line.word(), line.word()],
+        }
+    }
+
+    /// None where the ids are over limit.
+    fn columns(line: &mut Reader, count: usize) -> Option<Columns> {
+        let column = |line: &mut Reader| match line.word() {
+            129 => None,
+            n => {
+                assert!(n <= 12);
+                Some((0..n).map(|_| line.word()).collect())
+            }
+        };
+        let read: Vec<Option<Vec<u64>>> = (0..count).map(|_| column(line)).collect();
+        read.into_iter().collect()
+    }
+
+    /// The refusal of 1 to 4, else queue and columns.
+    fn checked(
+        search: &Search,
+        columns: Option<Columns>,
+        sheets: [u64; 2],
+        clock: u64,
+    ) -> Result<(&[Entry], Columns), u64> {
+        let small = search.sizes.iter().all(|&size| size <= 8);
+        let queue = search.queue.as_ref().filter(|_| small).ok_or(1u64)?;
+        let columns = columns.ok_or(1u64)?;
+        let ids = &columns[0];
+        let doubled = (0..ids.len()).any(|row| ids[..row].contains(&ids[row]));
+        if doubled || columns.iter().any(|column| column.len() != ids.len()) {
+            return Err(2);
+        }
+        if sheets.iter().any(|&places| places < 64) {
+            return Err(3);
+        }
+        let mut times = queue.iter().map(|entry| entry[1]).chain([clock]);
+        if times.any(|time| time > 1 << 53) {
+            return Err(4);
+        }
+        Ok((queue, columns))
+    }
+
+    /// What a column says of a player.
+    fn of(player: u64, columns: &[Vec<u64>], column: usize) -> Option<f64> {
+        let row = columns[0].iter().position(|&id| id == player)?;
+        Some(f64::from_bits(columns[column][row]))
+    }
+
+    fn average(players: &[u64], columns: &[Vec<u64>]) -> f64 {
+        let ratings = players.iter().filter_map(|&player| of(player, columns, 1));
+        ratings.fold(0.0, |sum, rating| sum + rating) / players.len().max(1) as f64
+    }
+
+    /// 1.0 minus the smaller, where NaN is never the smaller.
+    fn quality(a: &[u64], b: &[u64], columns: &[Vec<u64>]) -> f64 {
+        let share = (average(a, columns) - average(b, columns)).abs() / 400.0;
+        1.0 - if share < 1.0 { share } else { 1.0 }
+    }
+
+    /// Reads refusal, players and qualities, the end of every such line.
+    fn formed(mut line: Reader, expected: Result<Formed, u64>, seen: &mut [usize; 14]) {
+        let (refusal, players) = (line.word(), line.list());
+        let qualities: Vec<f64> = line.list().into_iter().map(f64::from_bits).collect();
+        assert_eq!(refusal, *expected.as_ref().err().unwrap_or(&0));
+        let (seats, values) = expected.unwrap_or_default();
+        assert_eq!(players, seats);
+        assert!(qualities.same(&values));
+        seen[if qualities.is_empty() { refusal } else { 13 } as usize] += 1;
+        line.end();
+    }
+
+    fn all_seen(seen: [usize; 14], refusals: &[usize]) {
+        assert!(seen[0] > 5 && seen[13] > 50, "{seen:?}");
+        assert!(refusals.iter().all(|&number| seen[number] > 2), "{seen:?}");
+    }
+
+    /// Is it team A's turn, with so many seated?
+    fn takes_a(a: usize, b: usize, sizes: [usize; 2]) -> bool {
+        a < sizes[0] && (a <= b || b == sizes[1])
+    }
+
+    fn greedy(queue: &[Entry], sizes: [usize; 2], columns: &[Vec<u64>]) -> Formed {
+        let mut used: Vec<u64> = Vec::new();
+        let mut all = Formed::default();
+        for anchor in queue {
+            if used.contains(&anchor[0]) {
+                continue;
+            }
+            used.push(anchor[0]);
+            let (mut a, mut b) = (vec![anchor[0]], Vec::new());
+            let mut reference = f64::from_bits(anchor[2]);
+            while a.len() < sizes[0] || b.len() < sizes[1] {
+                let distance = |entry: &Entry| (reference - f64::from_bits(entry[2])).abs();
+                let free = queue.iter().filter(|entry| !used.contains(&entry[0]));
+                let near = free.filter(|entry| distance(entry) < f64::INFINITY);
+                // The first of equal ones is the smallest.
+                let pick = near.min_by(|x, y| distance(x).total_cmp(&distance(y)));
+                let Some(pick) = pick else { break };
+                used.push(pick[0]);
+                if takes_a(a.len(), b.len(), sizes) {
+                    a.push(pick[0]);
+                    let rating = |&player: &u64| of(player, columns, 1).unwrap_or(0.0);
+                    let sum = a.iter().map(rating).fold(0.0, |sum, rating| sum + rating);
+                    reference = sum / a.len() as f64;
+                } else {
+                    b.push(pick[0]);
+                }
+            }
+            if a.len() == sizes[0] && b.len() == sizes[1] {
+                all.1.push(quality(&a, &b, columns));
+                all.0.extend(a.into_iter().chain(b));
+            }
+        }
+        all
+    }
+
+    #[test]
+    fn greedy_search() {
+        let mut seen = [0; 14];
+        for mut line in lines(25) {
+            let (search, columns) = (search(&mut line), columns(&mut line, 2));
+            let sheets = [line.word(), line.word()];
+            let sizes = search.sizes.map(|size| size as usize);
+            let checked = checked(&search, columns, sheets, 0);
+            let expected = checked.map(|(queue, columns)| greedy(queue, sizes, &columns));
+            formed(line, expected, &mut seen);
+        }
+        all_seen(seen, &[1, 2, 3, 4]);
+    }
+
+    #[test]
+    fn nearest() {
+        let mut seen = [0; 14];
+        for mut line in lines(26) {
+            let (max, search) = (line.word(), search(&mut line));
+            let columns = columns(&mut line, 2);
+            let sheets = [line.word(), line.word()];
+            let checked = checked(&search, columns, sheets, 0);
+            let expected = checked.and_then(|(queue, columns)| {
+                let seats = search.sizes.iter().sum::<u64>() as usize;
+                if seats == 0 {
+                    return Err(12);
+                }
+                let rating = |entry: &Entry| of(entry[0], &columns, 1).unwrap_or(1000.0);
+                let mut sorted: Vec<Entry> = queue.to_vec();
+                let nan = sorted.len() > 1 && sorted.iter().any(|entry| rating(entry).is_nan());
+                if sorted.len() < seats {
+                    return Ok(Formed::default());
+                }
+                if nan {
+                    return Err(5);
+                }
+                sorted.sort_by(|x, y| rating(x).partial_cmp(&rating(y)).expect("no NaN"));
+                let count = (sorted.len() / seats).min(max.min(64) as usize);
+                let players = sorted.iter().map(|entry| entry[0]);
+                Ok((players.take(count * seats).collect(), vec![0.0; count]))
+            });
+            formed(line, expected, &mut seen);
+        }
+        all_seen(seen, &[1, 2, 3, 4, 5, 12]);
+    }
+
+    /// The players on the line are taken as they are; their number, their qualities and that nobody sits twice are known.
+    #[test]
+    fn beam_search() {
+        let mut seen = [0; 14];
+        for mut line in lines(27) {
+            let (width, search) = (line.word(), search(&mut line));
+            let weights: [f64; 4] = std::array::from_fn(|_| f64::from_bits(line.word()));
+            let (columns, clock) = (columns(&mut line, 3), line.word());
+            let sheets = [line.word(), line.word()];
+            let narrow = columns.filter(|_| width <= 32);
+            let given = line.0[0];
+            let on_line: Vec<u64> = line.0[2..][..line.0[1] as usize].to_vec();
+            let expected = checked(&search, narrow, sheets, clock).and_then(|(queue, columns)| {
+                let [a, b] = search.sizes.map(|size| size as usize);
+                if given == 5 {
+                    let deviations = columns[2].iter().map(|&bits| f64::from_bits(bits));
+                    let mut floats = weights.into_iter().chain(deviations);
+                    assert!(queue.len() > 2 && a.max(1) + b > 1);
+                    assert!(floats.any(|float| !float.is_finite() || float.abs() > 1e300));
+                    return Err(5);
+                }
+                let mut players: Vec<u64> = queue.iter().map(|entry| entry[0]).collect();
+                players.sort_unstable();
+                players.dedup();
+                let mut seated = on_line.clone();
+                seated.sort_unstable();
+                seated.dedup();
+                assert_eq!(seated.len(), on_line.len());
+                assert!(seated.iter().all(|player| players.contains(player)));
+                let possible = a > 0 && (width > 0 || a + b == 1);
+                let count = if possible { players.len() / (a + b) } else { 0 };
+                assert_eq!(seated.len(), count * (a + b));
+                let matches = on_line.chunks((a + b).max(1)).map(|of| of.split_at(a));
+                let qualities = matches.map(|(a, b)| quality(a, b, &columns)).collect();
+                Ok((on_line, qualities))
+            });
+            formed(line, expected, &mut seen);
+        }
+        all_seen(seen, &[1, 2, 3, 4, 5]);
+    }
+}

@@ -4,10 +4,12 @@
 
 mod rules;
 mod scores;
+mod searches;
 mod show;
 
 pub use rules::*;
 pub use scores::*;
+pub use searches::*;
 
 /// One waiting player; party 0 and role 0 mean none.
 #[repr(C)]

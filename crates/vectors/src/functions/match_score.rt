@@ -1,42 +1,17 @@
 // weights (quality wait ping uncertainty), match, queue, columns ids, ratings and deviations, clock -> refusal, value
 use crate::columns;
-use crate::floats;
 use crate::queues;
 use crate::scores;
 use crate::teams;
+use crate::weights;
 use crate::words;
-use objective::score;
-use score::MatchObjective;
 use words::Cursor;
-
-struct ReadWeights {
-    weights: MatchObjective,
-    cursor: Cursor,
-}
-
-fn weights(text: &[u8], from: Cursor) -> ReadWeights {
-    let quality = words::next(text, from);
-    let wait = words::next(text, quality.cursor);
-    let ping = words::next(text, wait.cursor);
-    let uncertainty = words::next(text, ping.cursor);
-    let weights = MatchObjective {
-        quality: floats::float(quality.value),
-        wait: floats::float(wait.value),
-        ping: floats::float(ping.value),
-        uncertainty: floats::float(uncertainty.value),
-    };
-    let cursor = uncertainty.cursor;
-    ReadWeights {
-        weights: weights,
-        cursor: cursor,
-    }
-}
 
 pub fn replay(text: &[u8], inputs: Cursor) -> Cursor {
     let mut ids = [0u64; 129];
     let mut ratings = [0.0f64; 129];
     let mut deviations = [0.0f64; 129];
-    let weighed = weights(text, inputs);
+    let weighed = weights::read(text, inputs);
     let teams = teams::proposed(text, weighed.cursor);
     let waiting = queues::queue(text, teams.cursor);
     let first = columns::numbers(text, waiting.cursor, &mut ids);

@@ -50,6 +50,14 @@ const RULES: &str = "\
 # 24 weighted: weights as a vector, candidates, columns ids and ratings -> refusal, places
 # Where scores do not strictly rise the Rust has no answer to 24: places are then the stable falling order.";
 
+const SEARCHES: &str = "\
+# sizes = a b, of the two teams; sheets = n places for players, m places for qualities. Before a call place i holds player i + 1000
+# and every quality is -1.0. formed = k and k players, match by match, team A then B, then c and c qualities of as many matches; all
+# else stays as it was. Of a refused call k and c are 0.
+# 25 greedy_search: queue, sizes, columns ids and ratings, sheets -> refusal, formed
+# 26 nearest: max, queue, sizes, columns ids and ratings, sheets -> refusal, formed
+# 27 beam_search: width, queue, sizes, weights (quality wait ping uncertainty), columns ids, ratings and deviations, clock, sheets -> refusal, formed";
+
 fn main() {
     let options = options::parse(env::args().skip(1), 200, &[]).unwrap_or_else(|error| {
         eprintln!("{error}\nusage: vectors [--cases N] [--seed S]");
@@ -71,6 +79,7 @@ fn write(cases: u64, seed: u64) -> io::Result<()> {
     writeln!(out, "{LAYOUT}")?;
     writeln!(out, "{SCORES}")?;
     writeln!(out, "{RULES}")?;
+    writeln!(out, "{SEARCHES}")?;
     for function in FAMILIES.iter().flat_map(|(_, functions)| *functions) {
         let Some(store) = function.store else {
             continue;

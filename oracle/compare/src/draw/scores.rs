@@ -1,6 +1,6 @@
 //! Matches, columns, weights and vectors.
 
-use super::{LONG, ODD_IDS, Scale, WILD, player, pool, row_count, row_ids};
+use super::{LONG, ODD_IDS, Scale, WILD, everybody, player, pool, row_count, row_ids};
 use crate::data::Columns;
 use crate::model::{LAST_KIND, OBJECTIVE_LIMIT, ROSTER_LIMIT, TEAM_LIMIT};
 use crate::rng::Rng;
@@ -117,24 +117,24 @@ pub(super) fn rating_range(rng: &mut Rng) -> (f64, f64) {
 
 /// Ids and ratings for the seated.
 pub fn rated(rng: &mut Rng, scale: Scale, proposed: &ProposedMatch) -> Columns {
-    columns(rng, scale, proposed, false)
+    columns(rng, scale, &everybody(proposed), false)
 }
 
 /// Ids, ratings and deviations for the seated.
 pub fn rated_with_deviations(rng: &mut Rng, scale: Scale, proposed: &ProposedMatch) -> Columns {
-    columns(rng, scale, proposed, true)
+    columns(rng, scale, &everybody(proposed), true)
 }
 
-fn columns(rng: &mut Rng, scale: Scale, proposed: &ProposedMatch, deviations: bool) -> Columns {
+/// Ids, ratings and, where they are taken, deviations for `players`.
+pub(super) fn columns(rng: &mut Rng, scale: Scale, players: &[u64], deviations: bool) -> Columns {
     let rows = match scale {
         Scale::Stored if rng.one_in(20) => return long_ids(deviations),
         Scale::Stored => rng.below(13),
         Scale::Full => row_count(rng, scale),
     };
-    let seated = [proposed.a.seated(), proposed.b.seated()].concat();
     let (low, high) = rating_range(rng);
     let mut columns = Columns {
-        ids: row_ids(rng, rows, &seated),
+        ids: row_ids(rng, rows, players),
         ratings: floats(rng, rows, low, high),
         deviations: deviations.then(|| floats(rng, rows, 0.0, 350.0)),
     };

@@ -1,11 +1,13 @@
 //! The table of families. A new one: its file, its `mod`, its line in the table.
 
+pub mod candidate;
 pub mod constraint;
 pub mod policy;
 pub mod quality;
 pub mod queue;
 pub mod roster;
 pub mod score;
+pub mod search;
 pub mod selection;
 pub mod soft;
 pub mod time;
@@ -24,4 +26,6 @@ pub const FAMILIES: &[(&str, &[Listed])] = &[
     ("constraint", constraint::FUNCTIONS),
     ("policy", policy::FUNCTIONS),
     ("selection", selection::FUNCTIONS),
+    ("search", search::FUNCTIONS),
+    ("candidate", candidate::FUNCTIONS),
 ];

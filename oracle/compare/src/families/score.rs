@@ -73,10 +73,7 @@ impl Stored for MatchScore {
     const CODE: u64 = 9;
 
     fn write_case(case: &Case, words: &mut Words) {
-        words.float(case.objective.quality);
-        words.float(case.objective.wait);
-        words.float(case.objective.ping);
-        words.float(case.objective.uncertainty);
+        words.objective(&case.objective);
         words.proposed(&case.proposed);
         words.queue(&case.queue);
         words.columns(&case.columns);

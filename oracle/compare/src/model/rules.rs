@@ -127,13 +127,18 @@ fn soft_value(kind: u8, proposed: &ProposedMatch, rows: &Rows) -> f64 {
     let everybody = || [proposed.a.seated(), proposed.b.seated()].concat();
     match kind {
         0 => quality(proposed, rows),
-        1 => from_one(average(&everybody(), rows) / 200.0),
+        1 => from_one(average(&everybody(), &rows.ids, rows.ratings()) / 200.0),
         _ => 0.5,
     }
 }
 
 fn quality(proposed: &ProposedMatch, rows: &Rows) -> f64 {
-    let difference = average(proposed.a.seated(), rows) - average(proposed.b.seated(), rows);
+    let (a, b) = (proposed.a.seated(), proposed.b.seated());
+    quality_between(a, b, &rows.ids, rows.ratings())
+}
+
+pub(super) fn quality_between(a: &[u64], b: &[u64], ids: &[u64], ratings: &[f64]) -> f64 {
+    let difference = average(a, ids, ratings) - average(b, ids, ratings);
     from_one(difference.abs() / 400.0)
 }
 
@@ -142,20 +147,17 @@ fn from_one(share: f64) -> f64 {
     1.0 - if share < 1.0 { share } else { 1.0 }
 }
 
-/// Players without a row count in the length.
-fn average(players: &[u64], rows: &Rows) -> f64 {
-    let rating = |player: &u64| {
-        let row = rows.ids.iter().position(|id| id == player);
-        row.map(|row| rows.ratings()[row])
+/// Of what a column says of the players; those without a row count in the length.
+pub(super) fn average(players: &[u64], ids: &[u64], column: &[f64]) -> f64 {
+    let of = |player: &u64| {
+        let row = ids.iter().position(|id| id == player);
+        row.map(|row| column[row])
     };
-    let sum = players
-        .iter()
-        .filter_map(rating)
-        .fold(0.0, |sum, r| sum + r);
+    let sum = players.iter().filter_map(of).fold(0.0, |sum, x| sum + x);
     sum / players.len().max(1) as f64
 }
 
-fn unranked(scores: &[f64]) -> bool {
+pub(super) fn unranked(scores: &[f64]) -> bool {
     scores.len() > 1 && scores.iter().any(|score| score.is_nan())
 }
 
