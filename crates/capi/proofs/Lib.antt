@@ -1,3 +1,4 @@
 pub mod Softs
 pub mod Maps
 pub mod Choices
+pub mod BestChoice

@@ -4,3 +4,4 @@ pub mod Scores
 pub mod Rules
 pub mod Selections
 pub mod Searches
+pub mod FullRounds

@@ -18,3 +18,6 @@ pub mod selections;
 
 // Searches and generators.
 pub mod searches;
+
+// The best choice of a full round.
+pub mod rounds;

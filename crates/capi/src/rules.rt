@@ -92,7 +92,7 @@ fn roles_of(r: RoleRequirements) -> RoleConstraint
     }
 }
 
-fn constraints_of(c: Constraints) -> constraint::Constraints
+pub(crate) fn constraints_of(c: Constraints) -> constraint::Constraints
     ensures { λ q. ⌜ q ≡ constraintsOf c ⌝ }
 {
     let brought = c.brought;

@@ -4,20 +4,31 @@ use mathlib.Core.Path.{_≡_, refl}
 use mathlib.Core.Bool.{false}
 use mathlib.Core.List.{List, [], _∷_, map}
 use mathlib.Core.Option.{some}
-use lib.Ieee.{Float, nan, binary64, add, sub, mul, div, lt, le, eq, ne, neg, round, ofInt, ofBits}
-use lib.ListN.{take}
+use lib.Ieee.{Float, nan, binary64, add, sub, mul, div, lt, le, eq, ne, isNan, neg, round, ofInt, ofBits}
+use lib.ListN.{length, take}
 use Rattle.base.specs.Floats.{zero, one, absOf, minOf}
 use Rattle.base.specs.Lists.{All, seek, keep}
+use Rattle.base.specs.Ranking.{insertBy}
+use Rattle.base.specs.Refusals.{Outcome, gives}
+use Rattle.queue.specs.Time.{secondsOf}
 use Rattle.queue.specs.declared.QueueEntry.{QueueEntry}
 use Rattle.roster.specs.Roster.{Roster, ofRatings, observe}
 use Rattle.matchmaker.specs.Quality.{MatchState, fourHundred, qualityAt, qualityOf, observations, averageFrom}
 use Rattle.objective.specs.Pareto.{anyBelow, dominatesOf, zeros}
+use Rattle.objective.specs.Score.{longer, scoreFrom}
+use Rattle.objective.specs.Soft.{weighted, latencyAt}
+use Rattle.objective.specs.declared.score.MatchObjective.{MatchObjective}
+use Rattle.objective.specs.declared.soft.SoftObjective.{SoftObjective}
+use Rattle.objective.specs.declared.soft.SoftObjective.the-variants.{Wait}
 use Rattle.objective.specs.declared.pareto.MatchObjectiveVector.{MatchObjectiveVector}
 use Rattle.seating.specs.declared.TeamComposition.{TeamComposition}
-use Rattle.seating.specs.Seating.{lineup}
+use Rattle.seating.specs.Seating.{lineup, seats}
 use Rattle.search.specs.Turns.{grown}
-use Rattle.candidate.specs.Choices.{choices}
+use Rattle.constraint.specs.declared.Constraints.{Constraints}
+use Rattle.candidate.specs.Choices.{choices, ways}
 use Rattle.candidate.specs.Exhaustive.{exhaustiveMatches}
+use Rattle.choice.specs.Full.{terms, chosen}
+use Rattle.search.specs.Beam.{expansions, stepped, steps, beamOf, beaming, beamMatches}
 use Rattle.search.specs.Greedy.{closer, nearest, filled, anchored, greedyMatches}
 
 -- 100.0, 0.75, and the ratings of the table's guests and of the entries about 1000
@@ -59,6 +70,23 @@ sizes a b = record { a = a; b = b }
 abbrev pair : ℕ → ℕ → MatchState
 pair p q = lineup (p ∷ []) (q ∷ [])
 
+abbrev solo : ℕ → MatchState
+solo p = lineup (p ∷ []) []
+
+-- the quality's weight is 1.0, the others are 0.0
+abbrev byQuality : MatchObjective
+byQuality = record { quality = one; wait = zero; ping = zero; uncertainty = zero }
+
+-- no constraint is brought
+abbrev unconstrained : Constraints
+unconstrained =
+    record {
+      brought = record { sizes = false; roles = false; parties = false; latency = false; regions = false };
+      sizes = record { a = 0; b = 0 };
+      roles = record { requirements = []; count = 0 };
+      regions = record { pairs = []; count = 0 };
+    }
+
 pub data Line : Type 0 where
   -- a difference of averages, and its quality
   difference : Float → Float → Line
@@ -66,8 +94,12 @@ pub data Line : Type 0 where
   equalVectors : MatchObjectiveVector → Line
   -- greedy search by these sizes among the table's guests: the matches and their qualities
   greedy : TeamComposition → List MatchState → List Float → Line
+  -- beam search by these sizes and this width among the table's guests, by quality alone: what it gives
+  beam : TeamComposition → ℕ → Outcome (List MatchState) → Line
   -- the exhaustive listing of some guests by these sizes
   exhaustive : TeamComposition → List QueueEntry → List MatchState → Line
+  -- a full round's choice of some guests by these sizes, nothing brought but these objectives: the match and the number tried
+  full : TeamComposition → List QueueEntry → List SoftObjective → MatchState → ℕ → Line
   -- the entry picked for a reference rating
   pick : Float → List QueueEntry → QueueEntry → Line
 
@@ -76,12 +108,14 @@ abbrev pub Holds : Line → Type 0
 Holds (difference d q) = qualityAt d ≡ q
 Holds (equalVectors v) = dominatesOf v v ≡ false
 Holds (greedy s ms qs) = (greedyMatches s rostered guests ≡ ms) × (map (λ m. qualityOf rostered (m .a .players) (m .b .players)) ms ≡ qs)
+Holds (beam s width o) = beamMatches (beaming s width byQuality rostered guests 0) guests ≡ o
 Holds (exhaustive s queue ms) = exhaustiveMatches s queue ≡ ms
+Holds (full s queue os m n) = chosen (terms rostered unconstrained os (length os)) s queue ≡ gives (record { best = some m; tried = n })
 Holds (pick reference queue e) = nearest reference [] queue ≡ some e
 
 -- "Differences 0, 100, 400, NaN: 1.0, 0.75, 0.0, 0.0." "Equal vectors do not dominate." "Greedy 2+2: A {1, 4}, B {3, 2}, quality
--- 0.75." "Greedy 0+1: none." "Exhaustive 2+2: A {1, 2}, B {3, 4} only." "Exhaustive 1+1 of guests 1, 2, 3: (1,2), (1,3), (2,3)."
--- "Reference 1000, entries 1010 then 990: 1010."
+-- 0.75." "Greedy 0+1: none." "Beam width 0: 1+1 none; 1+0 one match a guest." "Exhaustive 2+2: A {1, 2}, B {3, 4} only." "Exhaustive 1+1 of guests 1, 2, 3: (1,2), (1,3), (2,3)."
+-- "Full round on those, wait objective only: (2,3), tried 3." "Reference 1000, entries 1010 then 990: 1010."
 abbrev pub lines : List Line
 lines =
     difference zero one
@@ -92,11 +126,15 @@ lines =
     ∷ equalVectors (record { skill = one; role = hundred; latency = nan; party = threeQuarters; wait = hundred; utilization = nan })
     ∷ greedy (sizes 2 2) (lineup (1 ∷ 4 ∷ []) (3 ∷ 2 ∷ []) ∷ []) (threeQuarters ∷ [])
     ∷ greedy (sizes 0 1) [] []
+    ∷ beam (sizes 1 1) 0 (gives [])
+    ∷ beam (sizes 1 0) 0 (gives (solo 1 ∷ solo 2 ∷ solo 3 ∷ solo 4 ∷ []))
+    ∷ beam (sizes 2 2) 4 (gives (lineup (1 ∷ 2 ∷ []) (4 ∷ 3 ∷ []) ∷ []))
     ∷ exhaustive (sizes 2 2) guests (lineup (1 ∷ 2 ∷ []) (3 ∷ 4 ∷ []) ∷ [])
     ∷ exhaustive (sizes 1 1) (take 3 guests) (pair 1 2 ∷ pair 1 3 ∷ pair 2 3 ∷ [])
+    ∷ full (sizes 1 1) (take 3 guests) (Wait one ∷ []) (pair 2 3) 3
     ∷ pick thousand (entry 1 r1010 ∷ entry 2 r990 ∷ []) (entry 1 r1010)
     ∷ []
 
 pub at-the-table : All Holds lines
-unfolding qualityAt absOf minOf dominatesOf anyBelow seek keep observe observations averageFrom closer grown filled anchored choices add div sub lt le eq ne ofInt ofBits round
-at-the-table = (refl, (refl, (refl, (refl, (refl, (refl, ((refl, refl), ((refl, refl), (refl, (refl, (refl, tt)))))))))))
+unfolding qualityAt absOf minOf dominatesOf anyBelow seek keep observe observations averageFrom closer grown filled anchored insertBy expansions stepped steps beamOf seats secondsOf longer scoreFrom choices ways weighted latencyAt mul add div sub lt le eq ne isNan ofInt ofBits round
+at-the-table = (refl, (refl, (refl, (refl, (refl, (refl, ((refl, refl), ((refl, refl), (refl, (refl, (refl, (refl, (refl, (refl, (refl, tt)))))))))))))))

@@ -9,6 +9,7 @@ use Rattle.base.specs.declared.Checked.the-variants.{Passed}
 use Rattle.base.specs.Lists.{any}
 use Rattle.base.specs.Refusals.{Outcome, refused, gives, guarded, checkedOf}
 use Rattle.base.proofs.Cases.{never}
+use Rattle.base.proofs.Checks.{neither}
 use Rattle.queue.specs.Queue.{QueueState, isLate}
 use Rattle.roster.specs.Roster.{Roster, ratingsCheck}
 use Rattle.seating.specs.declared.TeamComposition.{TeamComposition}
@@ -22,12 +23,6 @@ pub record Held (s : TeamComposition) (q : QueueState) (players qualities : ℕ)
   pub b : s .b ≤ 8
   pub players-fit : 64 ≤ players
   pub qualities-fit : 64 ≤ qualities
-
--- neither of two tests holds
-neither : (a b : Bool) → (a || b) ≡ false → (a ≡ false) × (b ≡ false)
-neither true b h = never cc
-neither false true h = never cc
-neither false false h = (h, h)
 
 passing : (t : Bool) (o : Outcome Unit) (u l : Bool) → _≡_ {A = Outcome Unit} (gives tt) (cond t (refused 1) (guarded o (cond u (refused 3) (cond l (refused 4) (gives tt))))) → (t ≡ false) × (u ≡ false)
 passing true o u l h = never cc

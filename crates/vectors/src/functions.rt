@@ -5,11 +5,13 @@ use words::Cursor;
 
 mod as_secs_f64;
 mod beam_search;
+mod best_choice;
 mod check_roster;
 mod constraints;
 mod dominates;
 mod duration_since;
 mod enqueue;
+mod exhaustive;
 mod greedy;
 mod greedy_search;
 mod latency;
@@ -60,11 +62,13 @@ pub fn write_name(code: u64) -> bool {
         25 => io::write_all(1, b"greedy_search"),
         26 => io::write_all(1, b"nearest"),
         27 => io::write_all(1, b"beam_search"),
+        28 => io::write_all(1, b"exhaustive"),
+        29 => io::write_all(1, b"best_choice"),
         _ => write_unknown(code),
     }
 }
 
-// `code-28`, or `other` for 0, where lines are counted whose code can't be read or is 32 or more.
+// `code-30`, or `other` for 0, where lines are counted whose code can't be read or is 32 or more.
 fn write_unknown(code: u64) -> bool {
     if code == 0 {
         return io::write_all(1, b"other");
@@ -102,6 +106,8 @@ pub fn replay(text: &[u8], code: u64, inputs: Cursor) -> Cursor {
         25 => greedy_search::replay(text, inputs),
         26 => nearest::replay(text, inputs),
         27 => beam_search::replay(text, inputs),
+        28 => exhaustive::replay(text, inputs),
+        29 => best_choice::replay(text, inputs),
         _ => words::checked(inputs, false),
     }
 }

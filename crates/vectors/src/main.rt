@@ -65,7 +65,7 @@ use words::Cursor;
 
 // Reads all of the input.
 fn main() {
-    let mut input = [0u8; 262144];
+    let mut input = [0u8; 524288];
     let n = io::read_full(0, &mut input);
     replay(&input[..n]);
 }
@@ -74,7 +74,7 @@ fn main() {
 fn replay(text: &[u8]) {
     let mut replayed = [0u64; 32];
     let mut differ = [0u64; 32];
-    if 262143 < text.len() {
+    if 524287 < text.len() {
         io::write_all(1, b"the input does not fit, and differs\n");
         tally::count(&mut differ, 0);
     }

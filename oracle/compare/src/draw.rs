@@ -2,10 +2,12 @@
 //!
 //! Each irregularity is rare, so that most cases reach the Rust.
 
+mod choices;
 mod rules;
 mod scores;
 mod searches;
 
+pub use choices::*;
 pub use rules::*;
 pub use scores::*;
 pub use searches::*;

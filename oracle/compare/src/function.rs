@@ -41,6 +41,8 @@ pub trait Stored: Function {
     const CODE: u64;
     /// False where nothing is ever refused: its lines hold no refusal.
     const REFUSES: bool = true;
+    /// Of so many cases one is stored: more where lines are long.
+    const ONE_OF: u64 = 1;
 
     fn write_case(case: &Self::Case, words: &mut Words);
     fn write_answer(case: &Self::Case, answer: &Self::Answer, words: &mut Words);
@@ -52,6 +54,7 @@ pub struct Listed {
     pub one_case: bool,
     pub judge: fn(&mut Rng) -> Verdict,
     pub store: Option<fn(&mut Rng) -> Option<String>>,
+    pub one_of: u64,
 }
 
 /// Compared only.
@@ -61,6 +64,7 @@ pub const fn compared<F: Function>() -> Listed {
         one_case: F::ONE_CASE,
         judge: judge::<F>,
         store: None,
+        one_of: 1,
     }
 }
 
@@ -68,6 +72,7 @@ pub const fn compared<F: Function>() -> Listed {
 pub const fn stored<F: Stored>() -> Listed {
     Listed {
         store: Some(store::<F>),
+        one_of: F::ONE_OF,
         ..compared::<F>()
     }
 }

@@ -1,8 +1,10 @@
 //! Which refusal each call must get, written from document 01 and its readings alone. 0 is none.
 
+mod choices;
 mod rules;
 mod searches;
 
+pub use choices::*;
 pub use rules::*;
 pub use searches::*;
 

@@ -35,7 +35,7 @@ impl Reader {
         match self.word() {
             65 => None,
             n => {
-                assert!(n <= 12);
+                assert!(n <= 12 || n == 21);
                 Some((0..n).map(|_| self.entry()).collect())
             }
         }
@@ -44,6 +44,14 @@ impl Reader {
     fn end(self) {
         assert_eq!(self.0, [], "words are left over");
     }
+}
+
+/// Sets of `seats` of `n` places in ascending order: by their bits, the first place the highest, from the greatest number down.
+fn choices(n: usize, seats: usize) -> Vec<Vec<usize>> {
+    let sets = (0..1u32 << n).rev();
+    let chosen = sets.filter(|set| set.count_ones() as usize == seats);
+    let places = |set: u32| (0..n).filter(move |place| set >> (n - 1 - place) & 1 == 1);
+    chosen.map(|set| places(set).collect()).collect()
 }
 
 fn lines(code: u64) -> Vec<Reader> {
@@ -365,7 +373,7 @@ mod scores {
 
 /// Lines of constraints, policies and selections, their answers computed anew from document 01.
 mod rules {
-    use super::{Reader, lines};
+    use super::{Reader, choices, lines};
     use compare::same::Same;
 
     type Teams = [Vec<u64>; 2];
@@ -598,36 +606,66 @@ mod rules {
         }
     }
 
-    /// Columns: ids, ratings, parties, roles, regions.
+    /// The constraints that are brought, and columns ids, ratings, parties, roles, regions.
+    struct Ruled {
+        sizes: Option<[u64; 2]>,
+        roles: Requirements,
+        parties: bool,
+        latency: bool,
+        regions: Option<Pairs>,
+        columns: Columns,
+    }
+
+    /// The refusal of 1 and 2, else what is brought.
+    fn ruled(constraints: Constraints, columns: Option<Columns>) -> Result<Ruled, u64> {
+        let [sizes, roles, parties, latency, regions] = constraints.brought;
+        let ruled = Ruled {
+            sizes: sizes.then_some(constraints.sizes),
+            roles: if roles {
+                constraints.roles.ok_or(1u64)?
+            } else {
+                Vec::new()
+            },
+            parties,
+            latency,
+            regions: if regions {
+                Some(constraints.regions.ok_or(1u64)?)
+            } else {
+                None
+            },
+            columns: columns.ok_or(1u64)?,
+        };
+        if ruled.sizes.iter().flatten().any(|&size| size > 8) {
+            return Err(1);
+        }
+        let pairs = ruled.regions.iter().flatten();
+        let codes: Vec<u64> = pairs.flatten().copied().collect();
+        if ruled.columns.bad() || unknown(&codes) || unknown(&ruled.columns.0[4]) {
+            return Err(2);
+        }
+        Ok(ruled)
+    }
+
+    impl Ruled {
+        fn satisfied(&self, teams: &Teams) -> bool {
+            let columns = &self.columns;
+            let mut regions = self.regions.iter();
+            self.sizes.iter().all(|&sizes| sized(teams, sizes))
+                && roles_met(&self.roles, teams, columns, 3)
+                && (!self.parties || parties_whole(teams, columns, 2))
+                && (!self.latency || above_zero(teams, columns, 1))
+                && regions.all(|allowed| regions_allowed(allowed, teams, columns, 4))
+        }
+    }
+
     fn together(
         constraints: Constraints,
         teams: Option<Teams>,
         columns: Option<Columns>,
     ) -> Result<(bool, Teams, Columns), u64> {
-        let [sizes, roles, parties, latency, regions] = constraints.brought;
-        let wanted = if roles {
-            constraints.roles.ok_or(1u64)?
-        } else {
-            Vec::new()
-        };
-        let allowed = if regions {
-            constraints.regions.ok_or(1u64)?
-        } else {
-            Vec::new()
-        };
-        if sizes && constraints.sizes.iter().any(|&size| size > 8) {
-            return Err(1);
-        }
-        let (teams, columns) = checked(teams, columns)?;
-        if unknown(&allowed.concat()) || unknown(&columns.0[4]) {
-            return Err(2);
-        }
-        let satisfied = (!sizes || sized(&teams, constraints.sizes))
-            && roles_met(&wanted, &teams, &columns, 3)
-            && (!parties || parties_whole(&teams, &columns, 2))
-            && (!latency || above_zero(&teams, &columns, 1))
-            && (!regions || regions_allowed(&allowed, &teams, &columns, 4));
-        Ok((satisfied, teams, columns))
+        let teams = teams.ok_or(1u64)?;
+        let ruled = ruled(constraints, columns)?;
+        Ok((ruled.satisfied(&teams), teams, ruled.columns))
     }
 
     #[test]
@@ -722,6 +760,58 @@ mod rules {
             line.end();
         }
         assert!((30..200).contains(&barred), "{barred}");
+    }
+
+    #[test]
+    fn best_choice() {
+        let mut seen = [0; 9];
+        for mut line in lines(29) {
+            let (queue, sizes) = (line.queue(), sizes(&mut line));
+            let (constraints, objectives) = (constraints(&mut line), objectives(&mut line));
+            let columns = columns(&mut line, 5);
+            let small = sizes.iter().all(|&size| size <= 8);
+            let listed = queue.zip(objectives).filter(|_| small).ok_or(1u64);
+            let expected = listed.and_then(|(queue, objectives)| {
+                let ruled = ruled(constraints, columns)?;
+                if queue.iter().any(|entry| entry[1] > 1 << 53) {
+                    return Err(4);
+                }
+                if queue.len() > 20 {
+                    return Err(6);
+                }
+                let [a, b] = sizes.map(|size| size as usize);
+                let choices = choices(queue.len(), a + b);
+                let tried = choices.len() as u64;
+                let teams = choices.into_iter().map(|places| {
+                    let players = places.into_iter().map(|place| queue[place][0]);
+                    let mut of_a: Vec<u64> = players.collect();
+                    let of_b = of_a.split_off(a);
+                    [of_a, of_b]
+                });
+                let passing: Vec<Teams> = teams.filter(|teams| ruled.satisfied(teams)).collect();
+                let scores = passing
+                    .iter()
+                    .map(|t| score(&objectives, t, &ruled.columns));
+                let scores: Vec<f64> = scores.collect();
+                rankable(&scores)?;
+                let beaten = |score: &f64| scores.iter().any(|other| other > score);
+                let last = scores.iter().rposition(|score| !beaten(score));
+                Ok((last.map(|place| passing[place].clone()), tried))
+            });
+            let (refusal, found) = (line.word(), line.word());
+            let teams = (found == 1).then(|| teams(&mut line).expect("within limits"));
+            let tried = line.word();
+            seen[match refusal {
+                0 if teams.is_some() => 7,
+                0 if tried > 0 => 8,
+                number => number as usize,
+            }] += 1;
+            assert_eq!(refusal, *expected.as_ref().err().unwrap_or(&0));
+            assert_eq!((teams, tried), expected.unwrap_or((None, 0)));
+            line.end();
+        }
+        assert!(seen[7] > 60 && seen[8] > 20 && seen[0] > 5, "{seen:?}");
+        assert!([1, 2, 4, 5, 6].iter().all(|&n| seen[n] > 2), "{seen:?}");
     }
 
     type Candidates = Vec<Teams>;
@@ -834,7 +924,7 @@ mod rules {
 
 /// Lines of searches and generators, their answers computed anew from document 01.
 mod searches {
-    use super::{Entry, Reader, lines};
+    use super::{Entry, Reader, choices, lines};
     use compare::same::Same;
 
     /// Ids, then floats as bits.
@@ -1010,6 +1100,36 @@ mod searches {
             formed(line, expected, &mut seen);
         }
         all_seen(seen, &[1, 2, 3, 4, 5, 12]);
+    }
+
+    #[test]
+    fn exhaustive() {
+        let mut seen = [0; 14];
+        for mut line in lines(28) {
+            let search = search(&mut line);
+            let sheets = [line.word(), line.word()];
+            let small = search.sizes.iter().all(|&size| size <= 8);
+            let queue = search.queue.as_ref().filter(|_| small).ok_or(1u64);
+            let expected = queue.and_then(|queue| {
+                if queue.iter().any(|entry| entry[1] > 1 << 53) {
+                    return Err(4);
+                }
+                if queue.len() > 20 {
+                    return Err(6);
+                }
+                let seats = search.sizes.iter().sum::<u64>() as usize;
+                let choices = choices(queue.len(), seats);
+                let players = choices.concat().into_iter().map(|place| queue[place][0]);
+                let players: Vec<u64> = players.collect();
+                let wanted = [players.len() as u64, choices.len() as u64];
+                if sheets[0] < wanted[0] || sheets[1] < wanted[1] {
+                    return Err(3);
+                }
+                Ok((players, vec![0.0; choices.len()]))
+            });
+            formed(line, expected, &mut seen);
+        }
+        all_seen(seen, &[1, 3, 4, 6]);
     }
 
     /// The players on the line are taken as they are; their number, their qualities and that nobody sits twice are known.

@@ -2,11 +2,13 @@
 //!
 //! A refusal is 0 for none, else the number of document 01.
 
+mod choices;
 mod rules;
 mod scores;
 mod searches;
 mod show;
 
+pub use choices::*;
 pub use rules::*;
 pub use scores::*;
 pub use searches::*;

@@ -82,6 +82,14 @@ unsafe extern "C" {
         qualities: *mut f64,
         qualities_len: usize,
     ) -> Formed;
+    fn yilgashe_generate_exhaustive(
+        queue: Queue,
+        sizes: TeamComposition,
+        players: *mut u64,
+        players_len: usize,
+        qualities: *mut f64,
+        qualities_len: usize,
+    ) -> Formed;
 }
 
 pub fn search_greedy(
@@ -163,6 +171,25 @@ pub fn generate_nearest(
             ids.len(),
             ratings.as_ptr(),
             ratings.len(),
+            players.as_mut_ptr(),
+            players.len(),
+            qualities.as_mut_ptr(),
+            qualities.len(),
+        )
+    }
+}
+
+pub fn generate_exhaustive(
+    queue: Queue,
+    sizes: TeamComposition,
+    players: &mut [u64],
+    qualities: &mut [f64],
+) -> Formed {
+    // SAFETY: each pointer and length come from one slice; the call writes to these two alone.
+    unsafe {
+        yilgashe_generate_exhaustive(
+            queue,
+            sizes,
             players.as_mut_ptr(),
             players.len(),
             qualities.as_mut_ptr(),

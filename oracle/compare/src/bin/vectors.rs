@@ -1,4 +1,4 @@
-//! vectors [--cases N] [--seed S]: stored answers, N lines for each function that has them.
+//! vectors [--cases N] [--seed S]: stored answers, N lines for each function that has them, N / 2 where lines are long.
 
 use compare::families::FAMILIES;
 use compare::options;
@@ -56,7 +56,9 @@ const SEARCHES: &str = "\
 # else stays as it was. Of a refused call k and c are 0.
 # 25 greedy_search: queue, sizes, columns ids and ratings, sheets -> refusal, formed
 # 26 nearest: max, queue, sizes, columns ids and ratings, sheets -> refusal, formed
-# 27 beam_search: width, queue, sizes, weights (quality wait ping uncertainty), columns ids, ratings and deviations, clock, sheets -> refusal, formed";
+# 27 beam_search: width, queue, sizes, weights (quality wait ping uncertainty), columns ids, ratings and deviations, clock, sheets -> refusal, formed
+# 28 exhaustive: queue, sizes, sheets -> refusal, formed
+# 29 best_choice: queue, sizes, constraints, objectives, columns as in 18 -> refusal, found, team a and team b if found, tried";
 
 fn main() {
     let options = options::parse(env::args().skip(1), 200, &[]).unwrap_or_else(|error| {
@@ -84,7 +86,7 @@ fn write(cases: u64, seed: u64) -> io::Result<()> {
         let Some(store) = function.store else {
             continue;
         };
-        for case in 0..cases {
+        for case in 0..cases / function.one_of {
             if let Some(line) = store(&mut Rng::for_case(seed, function.name, case)) {
                 writeln!(out, "{line}")?;
             }

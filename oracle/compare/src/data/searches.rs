@@ -9,12 +9,19 @@ pub struct Sheets {
     pub qualities: Vec<f64>,
 }
 
+/// So many places of a sheet are printed.
+const SHOWN: usize = 400;
+
 /// A sheet a line, with its length.
 impl Debug for Sheets {
     fn fmt(&self, f: &mut Formatter<'_>) -> Result {
-        let (players, qualities) = (&self.players, &self.qualities);
         write!(f, "sheets")?;
-        write!(f, "\n      {:3} players: {players:?}", players.len())?;
-        write!(f, "\n      {:3} qualities: {qualities:?}", qualities.len())
+        sheet(f, "players", &self.players)?;
+        sheet(f, "qualities", &self.qualities)
     }
+}
+
+fn sheet<T: Debug>(f: &mut Formatter<'_>, name: &str, sheet: &[T]) -> Result {
+    let shown = &sheet[..sheet.len().min(SHOWN)];
+    write!(f, "\n      {:3} {name}: {shown:?}", sheet.len())
 }

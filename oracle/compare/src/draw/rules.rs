@@ -58,7 +58,7 @@ impl Takes {
 const UNKNOWN_REGIONS: [u8; 4] = [NO_RECORD + 1, NO_RECORD + 2, 1 << 7, u8::MAX];
 
 /// Ratings that a latency constraint does not pass.
-const NOT_ABOVE_ZERO: [f64; 6] = [0.0, -0.0, f64::NAN, -1.0, f64::NEG_INFINITY, -1e-300];
+pub(super) const NOT_ABOVE_ZERO: [f64; 6] = [0.0, -0.0, f64::NAN, -1.0, f64::NEG_INFINITY, -1e-300];
 
 /// Those seated in A, then those in B.
 pub fn everybody(proposed: &ProposedMatch) -> Vec<u64> {

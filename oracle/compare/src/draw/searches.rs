@@ -3,7 +3,7 @@
 use super::scores::{columns, fine, long_len};
 use super::{LONG, Scale, WILD, clock, match_objective, queue};
 use crate::data::{Columns, Sheets};
-use crate::model::{Beam, QUEUE_LIMIT, SHEET_LEAST, TEAM_LIMIT, WIDTH_LIMIT};
+use crate::model::{Beam, LISTED_LIMIT, QUEUE_LIMIT, SHEET_LEAST, TEAM_LIMIT, WIDTH_LIMIT, ways};
 use crate::rng::Rng;
 use yilgashe_sys::{Queue, TeamComposition};
 
@@ -63,9 +63,13 @@ fn sheet_len(rng: &mut Rng, scale: Scale) -> usize {
     }
 }
 
-/// What stands on a sheet shows whether it was touched. On a stored one place i holds player i + 1000 and quality -1.0.
 pub fn sheets(rng: &mut Rng, scale: Scale) -> Sheets {
     let (players, qualities) = (sheet_len(rng, scale), sheet_len(rng, scale));
+    filled(rng, scale, players, qualities)
+}
+
+/// What stands on a sheet shows whether it was touched. On a stored one place i holds player i + 1000 and quality -1.0.
+fn filled(rng: &mut Rng, scale: Scale, players: usize, qualities: usize) -> Sheets {
     match scale {
         Scale::Stored => Sheets {
             players: (1000..).take(players).collect(),
@@ -96,6 +100,87 @@ pub fn max(rng: &mut Rng) -> usize {
         4..=5 => rng.between(2, 8),
         _ => rng.between(QUEUE_LIMIT / 2, QUEUE_LIMIT),
     }
+}
+
+/// A queue and sizes of which every choice is listed: mostly few, some 20,000 at times, all 184,756 of 20 once in a while.
+pub fn listing(rng: &mut Rng, scale: Scale) -> (Queue, TeamComposition) {
+    if scale == Scale::Full && rng.one_in(1000) {
+        let mut queue = searched(rng, scale);
+        queue.len = LISTED_LIMIT;
+        return (queue, some_seats(rng, LISTED_LIMIT, usize::MAX));
+    }
+    choosable(rng, scale, 12, 20_000)
+}
+
+/// A queue of up to `short` entries comes with any sizes; a longer one with such that there are at most `most` choices. Stored ones
+/// have at most 6 entries, or one too many.
+pub(super) fn choosable(
+    rng: &mut Rng,
+    scale: Scale,
+    short: usize,
+    most: usize,
+) -> (Queue, TeamComposition) {
+    let (mut queue, mut sizes) = (searched(rng, scale), team_sizes(rng));
+    if queue.len > QUEUE_LIMIT {
+        return (queue, sizes);
+    }
+    let short = match scale {
+        Scale::Full => short,
+        Scale::Stored => 6,
+    };
+    queue.len = match (rng.below(24), scale) {
+        (0, Scale::Stored) => LISTED_LIMIT + 1,
+        (0, Scale::Full) => rng.pick(&[LISTED_LIMIT + 1, LISTED_LIMIT + 2, QUEUE_LIMIT]),
+        (1, Scale::Full) => rng.between(short + 1, LISTED_LIMIT),
+        (2, Scale::Full) => LISTED_LIMIT,
+        _ => rng.below(short + 1),
+    };
+    if (short + 1..=LISTED_LIMIT).contains(&queue.len) {
+        sizes = some_seats(rng, queue.len, most);
+    }
+    let seats = sizes.a.saturating_add(sizes.b);
+    if queue.len < seats && seats <= short && !rng.one_in(4) {
+        queue.len = rng.between(seats, short);
+    }
+    if rng.one_in(24) {
+        sizes = TeamComposition { a: 0, b: 0 };
+    }
+    (queue, sizes)
+}
+
+/// Few seats or many, with at most `most` ways to take them.
+fn some_seats(rng: &mut Rng, n: usize, most: usize) -> TeamComposition {
+    let all = 0..=2 * TEAM_LIMIT;
+    let seats: Vec<usize> = all.filter(|&seats| ways(n, seats) <= most).collect();
+    let seats = rng.pick(&seats);
+    let a = rng.between(seats.saturating_sub(TEAM_LIMIT), seats.min(TEAM_LIMIT));
+    TeamComposition { a, b: seats - a }
+}
+
+/// As many places as the listing fills, some more, one too few or none; few where no listing is made.
+pub fn listing_sheets(
+    rng: &mut Rng,
+    scale: Scale,
+    queue: &Queue,
+    sizes: &TeamComposition,
+) -> Sheets {
+    let small = sizes.a <= TEAM_LIMIT && sizes.b <= TEAM_LIMIT;
+    let (players, qualities) = match small && queue.len <= LISTED_LIMIT {
+        true => {
+            let seats = sizes.a + sizes.b;
+            let count = ways(queue.len, seats);
+            (count * seats, count)
+        }
+        false => (12, 6),
+    };
+    let mut places = |filled: usize| match rng.below(20) {
+        0 => 0,
+        1 => filled.saturating_sub(1),
+        2..=6 => filled + rng.between(1, 6),
+        _ => filled,
+    };
+    let (players, qualities) = (places(players), places(qualities));
+    filled(rng, scale, players, qualities)
 }
 
 /// The Rust scores anew at each comparison, so long queues come with small widths and wide beams with short queues.
@@ -196,5 +281,41 @@ mod tests {
             model::doubled(&ids)
         };
         assert!((1000..3000).contains(&queues.iter().filter(doubled).count()));
+    }
+    #[test]
+    fn listings_reach_every_boundary() {
+        let mut rng = Rng::new(1);
+        let mut counts = Vec::new();
+        for _ in 0..4000 {
+            let (queue, sizes) = listing(&mut rng, Scale::Full);
+            let sheets = listing_sheets(&mut rng, Scale::Full, &queue, &sizes);
+            if [0, 3].contains(&model::exhaustive(&queue, &sizes, &sheets)) {
+                let seats = sizes.a + sizes.b;
+                counts.push((queue.len, seats, ways(queue.len, seats)));
+            }
+        }
+        let seen = |wanted: fn(&(usize, usize, usize)) -> bool| {
+            let such = counts.iter().filter(|count| wanted(count));
+            such.count()
+        };
+        assert!(seen(|&(_, _, count)| count == 0) > 300);
+        assert!(seen(|&(n, seats, _)| n > 0 && seats == 0) > 50);
+        assert!(seen(|&(n, seats, _)| n == 0 && seats == 0) > 3);
+        assert!(seen(|&(n, seats, _)| n > 1 && n == seats) > 50);
+        assert!(seen(|&(_, _, count)| count > 100) > 500);
+        assert!(seen(|&(n, seats, _)| n == 20 && (1..4).contains(&seats)) > 10);
+        assert!(seen(|&(n, seats, _)| n == 20 && seats > 14) > 10);
+        assert!((1..20).contains(&seen(|&(_, _, count)| count > 20_000)));
+    }
+
+    #[test]
+    fn stored_listings_are_short() {
+        let mut rng = Rng::new(1);
+        for _ in 0..4000 {
+            let (queue, sizes) = listing(&mut rng, Scale::Stored);
+            assert!(queue.len <= 6 || [21, 65].contains(&queue.len));
+            let sheets = listing_sheets(&mut rng, Scale::Stored, &queue, &sizes);
+            assert!(sheets.players.len() <= 72 && sheets.qualities.len() <= 72);
+        }
     }
 }

@@ -1,6 +1,7 @@
 //! The table of families. A new one: its file, its `mod`, its line in the table.
 
 pub mod candidate;
+pub mod choice;
 pub mod constraint;
 pub mod policy;
 pub mod quality;
@@ -28,4 +29,5 @@ pub const FAMILIES: &[(&str, &[Listed])] = &[
     ("selection", selection::FUNCTIONS),
     ("search", search::FUNCTIONS),
     ("candidate", candidate::FUNCTIONS),
+    ("choice", choice::FUNCTIONS),
 ];

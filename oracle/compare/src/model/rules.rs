@@ -97,13 +97,20 @@ pub fn weighted(weights: &ObjectiveWeights, candidates: &Candidates, rows: &Rows
 
 /// The score of each candidate by a weighted list of objectives; columns of equal length.
 pub fn soft_scores(objectives: &SoftObjectives, candidates: &Candidates, rows: &Rows) -> Vec<f64> {
-    let score = |proposed: &ProposedMatch| {
-        let listed = objectives.listed();
-        listed.fold(0.0, |sum, (kind, weight)| {
-            sum + weight * soft_value(kind, proposed, rows)
-        })
-    };
+    let score = |proposed: &ProposedMatch| weighted_sum(objectives, proposed, rows);
     candidates.listed().iter().map(score).collect()
+}
+
+/// The score of one match by a weighted list of objectives; columns of equal length.
+pub(super) fn weighted_sum(
+    objectives: &SoftObjectives,
+    proposed: &ProposedMatch,
+    rows: &Rows,
+) -> f64 {
+    let listed = objectives.listed();
+    listed.fold(0.0, |sum, (kind, weight)| {
+        sum + weight * soft_value(kind, proposed, rows)
+    })
 }
 
 /// The score of each candidate by the skill weight alone; columns of equal length.
@@ -180,19 +187,19 @@ fn unknown(allowed: &RegionConstraint) -> bool {
 }
 
 /// Only what is brought is looked at.
-fn over_limit(constraints: &Constraints) -> bool {
+pub(super) fn over_limit(constraints: &Constraints) -> bool {
     let brought = &constraints.brought;
     brought.sizes && large(&constraints.sizes)
         || brought.roles && demanding(&constraints.roles)
         || brought.regions && many(&constraints.regions)
 }
 
-fn bad_pairs(constraints: &Constraints) -> bool {
+pub(super) fn bad_pairs(constraints: &Constraints) -> bool {
     constraints.brought.regions && unknown(&constraints.regions)
 }
 
 /// Too many objectives, or one of a kind beyond the last.
-fn unlisted(objectives: &SoftObjectives) -> bool {
+pub(super) fn unlisted(objectives: &SoftObjectives) -> bool {
     let unknown = objectives.listed().any(|(kind, _)| kind > LAST_KIND);
     objectives.len > OBJECTIVE_LIMIT || unknown
 }
@@ -202,12 +209,12 @@ fn crowded(candidates: &Candidates) -> bool {
     candidates.len > CANDIDATE_LIMIT || candidates.listed().iter().any(wide)
 }
 
-fn long(rows: &Rows) -> bool {
+pub(super) fn long(rows: &Rows) -> bool {
     rows.lengths().iter().any(|&length| length > ROSTER_LIMIT)
 }
 
 /// Columns of unequal length, a player in two rows, or a region code beyond that of no record.
-fn bad(rows: &Rows) -> bool {
+pub(super) fn bad(rows: &Rows) -> bool {
     let unequal = rows.lengths().iter().any(|&n| n != rows.ids.len());
     let region = rows.regions().iter().any(|&code| code > NO_RECORD);
     unequal || doubled(&rows.ids) || region

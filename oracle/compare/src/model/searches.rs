@@ -11,10 +11,13 @@ use yilgashe_sys::{MatchObjective, Queue, TeamComposition};
 pub const WIDTH_LIMIT: usize = 32;
 /// A sheet has at least this many places.
 pub const SHEET_LEAST: usize = 64;
+/// Every choice is listed of this many entries.
+pub const LISTED_LIMIT: usize = 20;
 /// The generator's rating of a player without a row.
 const MISSING: f64 = 1000.0;
 
 pub const SHORT_SHEET: u8 = 3;
+pub const TOO_WIDE: u8 = 6;
 pub const NO_SEATS: u8 = 12;
 
 /// Team A, team B.
@@ -75,6 +78,35 @@ pub fn nearest(queue: &Queue, sizes: &TeamComposition, columns: &Columns, sheets
     }
 }
 
+pub fn exhaustive(queue: &Queue, sizes: &TeamComposition, sheets: &Sheets) -> u8 {
+    let checked = first(&[
+        (over(queue) || large(sizes), OVER_LIMIT),
+        (joined_late(queue), CLOCK),
+        (queue.len > LISTED_LIMIT, TOO_WIDE),
+    ]);
+    match checked {
+        0 => {
+            let seats = sizes.a + sizes.b;
+            let count = ways(queue.len, seats);
+            let players = sheets.players.len() < count * seats;
+            first(&[(players || sheets.qualities.len() < count, SHORT_SHEET)])
+        }
+        number => number,
+    }
+}
+
+/// How many ways there are to choose `k` of `n`, by Pascal's rule.
+pub fn ways(n: usize, k: usize) -> usize {
+    let mut row = vec![0; k + 1];
+    row[0] = 1;
+    for _ in 0..n {
+        for place in (1..=k).rev() {
+            row[place] += row[place - 1];
+        }
+    }
+    row[k]
+}
+
 /// The rating that the generator sorts each entry by; columns of equal length.
 fn ratings(queue: &Queue, columns: &Columns) -> Vec<f64> {
     let row = |player| columns.ids.iter().position(|&id| id == player);
@@ -83,7 +115,7 @@ fn ratings(queue: &Queue, columns: &Columns) -> Vec<f64> {
     waiting.map(|entry| rating(entry.player)).collect()
 }
 
-fn large(sizes: &TeamComposition) -> bool {
+pub(super) fn large(sizes: &TeamComposition) -> bool {
     sizes.a > TEAM_LIMIT || sizes.b > TEAM_LIMIT
 }
 
@@ -315,5 +347,41 @@ mod tests {
         };
         let alone = nearest(&queue(&good[..1]), &sizes(1, 0), &one, &sheets(64, 64));
         assert_eq!(alone, 0);
+    }
+    #[test]
+    fn ways_to_choose() {
+        assert_eq!([0, 1, 2, 3, 4, 5].map(|k| ways(4, k)), [1, 4, 6, 4, 1, 0]);
+        assert_eq!((ways(0, 0), ways(0, 1)), (1, 0));
+        assert_eq!((ways(20, 10), ways(20, 16)), (184_756, 4845));
+    }
+
+    /// Mends one check after another, each showing the next.
+    #[test]
+    fn exhaustive_checks_in_order() {
+        let mut queue = queue(&[1.0; 21]);
+        queue.entries[0].joined = LATE;
+        assert_eq!(exhaustive(&queue, &sizes(9, 0), &sheets(0, 0)), 1);
+        assert_eq!(exhaustive(&queue, &sizes(0, usize::MAX), &sheets(0, 0)), 1);
+        assert_eq!(exhaustive(&queue, &sizes(8, 8), &sheets(0, 0)), 4);
+        queue.entries[0].joined = CLOCK_LIMIT;
+        assert_eq!(exhaustive(&queue, &sizes(8, 8), &sheets(0, 0)), 6);
+        queue.len = 20;
+        let refusal = |players, qualities| {
+            let sheets = sheets(players, qualities);
+            exhaustive(&queue, &sizes(1, 2), &sheets)
+        };
+        assert_eq!(refusal(3 * 1140 - 1, 1140), 3);
+        assert_eq!(refusal(3 * 1140, 1139), 3);
+        assert_eq!(refusal(3 * 1140, 1140), 0);
+        queue.len = 65;
+        assert_eq!(exhaustive(&queue, &sizes(1, 2), &sheets(0, 0)), 1);
+    }
+
+    #[test]
+    fn a_listing_of_nothing_wants_no_places() {
+        let three = queue(&[1.0; 3]);
+        assert_eq!(exhaustive(&three, &sizes(2, 2), &sheets(0, 0)), 0);
+        assert_eq!(exhaustive(&three, &sizes(0, 0), &sheets(0, 1)), 0);
+        assert_eq!(exhaustive(&three, &sizes(0, 0), &sheets(0, 0)), 3);
     }
 }

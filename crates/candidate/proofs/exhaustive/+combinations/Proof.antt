@@ -1,6 +1,6 @@
 -- The walk on two lent sheets: at the end of a choice its match is written; else the choices with the next player, then those
 -- without. What the first call wrote is counted by its contract, and the second goes on there.
-use Prim.Native.Nat.{ℕ, _+_, _-_, _<_}
+use Prim.Native.Nat.{ℕ, _+_, _-_, _≤_, _<_}
 use mathlib.Core.Path.{_≡_, ap, _∙_}
 use native.Mathlib.Nat.{one-mul}
 use native.Mathlib.Omega.{arith}
@@ -143,11 +143,10 @@ combinations-combinations-requires-2 t c κs =
     let e = ap (λ (m : MatchState). length (seated m)) (v .ensures) ∙ seat-more (s .args .sizes) (matchOf (s .args .teams)) _ (s .pre .1 .0 .0) (s .pre .1 .0 .1 .0) (omega (arith, h, s .pre .1 .0)) in
     let f = ways-room (s .args .rest) (s .args .left) (seatsOf (s .args .sizes)) h i in
     let g = ways-step (s .args .rest) (s .args .left) h i in
-    let m = ap (λ (l : Listing). l .at) (k .ensures) in
-    let d = ap (λ (l : Listing). l .done) (k .ensures) in
-    let a = all-at (s .args .sizes) (matchOf (v .result)) (s .args .left - 1) (s .args .queued .now) (s .args .from + 1) (s .args .rest - 1) (listing (s .args .players .now) (s .args .qualities .now) (s .args .marks)) (s .pre .1 .0 .0) (s .pre .1 .0 .1 .0) (omega (arith, e, h, s .pre .1 .0)) (omega (arith, w, h, i, s .pre .1 .0)) in
-    let b = all-done (s .args .sizes) (matchOf (v .result)) (s .args .left - 1) (s .args .queued .now) (s .args .from + 1) (s .args .rest - 1) (listing (s .args .players .now) (s .args .qualities .now) (s .args .marks)) (omega (arith, w, h, i, s .pre .1 .0)) in
-    (omega (arith, s .pre, h, i), ((s .pre .1 .0 .0, (s .pre .1 .0 .1 .0, (omega (arith, s .pre .1 .0, h, i), omega (arith, s .pre .1 .0)))), (w, (omega (arith, f, m, a, s .pre .1 .1 .1 .0, k .kept), omega (arith, g, d, b, s .pre .1 .1 .1 .1, k .kept)))))
+    let r : s .args .from + 1 + (s .args .rest - 1) ≤ length (s .args .queued .now) = omega (arith, w, h, i, s .pre .1 .0) in
+    let m = ap (λ (l : Listing). l .at) (k .ensures) ∙ all-at (s .args .sizes) _ _ (s .args .queued .now) (s .args .from + 1) (s .args .rest - 1) (listing (s .args .players .now) (s .args .qualities .now) (s .args .marks)) (s .pre .1 .0 .0) (s .pre .1 .0 .1 .0) (omega (arith, e, h, s .pre .1 .0)) r in
+    let d = ap (λ (l : Listing). l .done) (k .ensures) ∙ all-done (s .args .sizes) _ _ (s .args .queued .now) (s .args .from + 1) (s .args .rest - 1) (listing (s .args .players .now) (s .args .qualities .now) (s .args .marks)) r in
+    (omega (arith, s .pre, h, i), ((s .pre .1 .0 .0, (s .pre .1 .0 .1 .0, (omega (arith, s .pre .1 .0, h, i), omega (arith, e, s .pre .1 .0, h)))), (w, (omega (arith, f, m, s .pre .1 .1 .1 .0, k .kept), omega (arith, g, d, s .pre .1 .1 .1 .1, k .kept)))))
 
 combinations-same-length-3 : (t : ℕ) → combinations-lts.Need-same-length-3 (calls t) (combinations-at t) combinations.Post
 combinations-same-length-3 t c = search needs

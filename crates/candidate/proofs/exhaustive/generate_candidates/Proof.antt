@@ -10,7 +10,8 @@ use Rattle.base.proofs.Checks.{by-first, by-second}
 use Rattle.queue.specs.Queue.{queueOf}
 use Rattle.matchmaker.specs.Quality.{MatchState, seated}
 use Rattle.seating.specs.Seating.{sizesOver, seatsOf}
-use Rattle.candidate.proofs.Answers.{refuses-1, refuses-4, refuses-6, refuses-3, lists, sizes-in, room-small, wide, not-wide, short-players, short-qualities, not-short, walked}
+use Rattle.seating.proofs.Laws.{sizes-in}
+use Rattle.candidate.proofs.Answers.{refuses-1, refuses-4, refuses-6, refuses-3, lists, room-small, wide, not-wide, short-players, short-qualities, not-short, walked}
 use Rattle.candidate.proofs.exhaustive.generate_candidates.Statement.{statement}
 use Rattle.candidate.proofs.exhaustive.generate_candidates.Tie as tie
 
@@ -41,7 +42,7 @@ returns-4 c =
     let s = c .before .before .before .before .before .before .before .before .args in
     let w : length (s .queue .entries) ≡ 64 = search (unmapped, needs) in
     let f : s .queue .len ≤ length (s .queue .entries) = omega (arith, w, c .before .before .before .before .before .if1 .left) in
-    refuses-6 (s .sizes) (queueOf (s .queue)) (record { players = s .players .now; qualities = s .qualities .now }) (by-second (sizesOver (s .sizes)) (le-ltb 64 (s .queue .len) (c .before .before .before .before .before .if1 .left)) (sym (c .before .before .before .before .is-over .ensures) ∙ c .before .before .before .if2 .left)) (sym (c .before .before .has-late .ensures) ∙ c .before .if3 .left) (wide (s .sizes) (s .queue .entries) (s .queue .len) f (omega (arith, c .if4 .taken)))
+    refuses-6 (s .sizes) (queueOf (s .queue)) (record { players = s .players .now; qualities = s .qualities .now }) (by-second (sizesOver (s .sizes)) (le-ltb 64 (s .queue .len) (c .before .before .before .before .before .if1 .left)) (sym (c .before .before .before .before .is-over .ensures) ∙ c .before .before .before .if2 .left)) (sym (c .before .before .has-late .ensures) ∙ c .before .if3 .left) (wide (s .queue .entries) (s .queue .len) f (omega (arith, c .if4 .taken)))
 
 add-seats : tie.Need-add-seats
 add-seats c =
@@ -62,7 +63,7 @@ returns-5 c =
     let s = c .before .before .before .before .before .before .before .before .before .before .before .args in
     let w : length (s .queue .entries) ≡ 64 = search (unmapped, needs) in
     let f : s .queue .len ≤ length (s .queue .entries) = omega (arith, w, c .before .before .before .before .before .before .before .before .if1 .left) in
-    refuses-3 (s .sizes) (queueOf (s .queue)) (record { players = s .players .now; qualities = s .qualities .now }) (by-second (sizesOver (s .sizes)) (le-ltb 64 (s .queue .len) (c .before .before .before .before .before .before .before .before .if1 .left)) (sym (c .before .before .before .before .before .before .before .is-over .ensures) ∙ c .before .before .before .before .before .before .if2 .left)) (sym (c .before .before .before .before .before .has-late .ensures) ∙ c .before .before .before .before .if3 .left) (not-wide (s .sizes) (s .queue .entries) (s .queue .len) f (c .before .before .before .if4 .left))
+    refuses-3 (s .sizes) (queueOf (s .queue)) (record { players = s .players .now; qualities = s .qualities .now }) (by-second (sizesOver (s .sizes)) (le-ltb 64 (s .queue .len) (c .before .before .before .before .before .before .before .before .if1 .left)) (sym (c .before .before .before .before .before .before .before .is-over .ensures) ∙ c .before .before .before .before .before .before .if2 .left)) (sym (c .before .before .before .before .before .has-late .ensures) ∙ c .before .before .before .before .if3 .left) (not-wide (s .queue .entries) (s .queue .len) f (c .before .before .before .if4 .left))
     (short-players (s .sizes) (s .queue .entries) (s .queue .len) f (s .players .now) (s .qualities .now) (c .before .ways .ensures) (c .if5 .taken))
 
 returns-6 : tie.Need-returns-6
@@ -70,7 +71,7 @@ returns-6 c =
     let s = c .before .before .before .before .before .before .before .before .before .before .before .before .args in
     let w : length (s .queue .entries) ≡ 64 = search (unmapped, needs) in
     let f : s .queue .len ≤ length (s .queue .entries) = omega (arith, w, c .before .before .before .before .before .before .before .before .before .if1 .left) in
-    refuses-3 (s .sizes) (queueOf (s .queue)) (record { players = s .players .now; qualities = s .qualities .now }) (by-second (sizesOver (s .sizes)) (le-ltb 64 (s .queue .len) (c .before .before .before .before .before .before .before .before .before .if1 .left)) (sym (c .before .before .before .before .before .before .before .before .is-over .ensures) ∙ c .before .before .before .before .before .before .before .if2 .left)) (sym (c .before .before .before .before .before .before .has-late .ensures) ∙ c .before .before .before .before .before .if3 .left) (not-wide (s .sizes) (s .queue .entries) (s .queue .len) f (c .before .before .before .before .if4 .left))
+    refuses-3 (s .sizes) (queueOf (s .queue)) (record { players = s .players .now; qualities = s .qualities .now }) (by-second (sizesOver (s .sizes)) (le-ltb 64 (s .queue .len) (c .before .before .before .before .before .before .before .before .before .if1 .left)) (sym (c .before .before .before .before .before .before .before .before .is-over .ensures) ∙ c .before .before .before .before .before .before .before .if2 .left)) (sym (c .before .before .before .before .before .before .has-late .ensures) ∙ c .before .before .before .before .before .if3 .left) (not-wide (s .queue .entries) (s .queue .len) f (c .before .before .before .before .if4 .left))
     (short-qualities (s .sizes) (s .queue .entries) (s .queue .len) f (s .players .now) (s .qualities .now) (c .before .before .ways .ensures) (c .before .if5 .left) (c .if6 .taken))
 
 players-requires : tie.Need-players-requires
@@ -105,7 +106,7 @@ returns-7 c =
     let v = c .before .before .before .before .before .before .before .before .before .before .before .before .before .ways .ensures in
     let p = c .before .before .before .before .before .before .before .before .before .before .before .before .if5 .left in
     let q = c .before .before .before .before .before .before .before .before .before .before .before .if6 .left in
-    lists (s .sizes) (queueOf (s .queue)) (record { players = s .players .now; qualities = s .qualities .now }) (by-second (sizesOver (s .sizes)) (le-ltb 64 (s .queue .len) (c .before .before .before .before .before .before .before .before .before .before .before .before .before .before .before .before .before .before .before .before .if1 .left)) (sym (c .before .before .before .before .before .before .before .before .before .before .before .before .before .before .before .before .before .before .before .is-over .ensures) ∙ c .before .before .before .before .before .before .before .before .before .before .before .before .before .before .before .before .before .before .if2 .left)) (sym (c .before .before .before .before .before .before .before .before .before .before .before .before .before .before .before .before .before .has-late .ensures) ∙ c .before .before .before .before .before .before .before .before .before .before .before .before .before .before .before .before .if3 .left) (not-wide (s .sizes) (s .queue .entries) (s .queue .len) f (c .before .before .before .before .before .before .before .before .before .before .before .before .before .before .before .if4 .left))
+    lists (s .sizes) (queueOf (s .queue)) (record { players = s .players .now; qualities = s .qualities .now }) (by-second (sizesOver (s .sizes)) (le-ltb 64 (s .queue .len) (c .before .before .before .before .before .before .before .before .before .before .before .before .before .before .before .before .before .before .before .before .if1 .left)) (sym (c .before .before .before .before .before .before .before .before .before .before .before .before .before .before .before .before .before .before .before .is-over .ensures) ∙ c .before .before .before .before .before .before .before .before .before .before .before .before .before .before .before .before .before .before .if2 .left)) (sym (c .before .before .before .before .before .before .before .before .before .before .before .before .before .before .before .before .before .has-late .ensures) ∙ c .before .before .before .before .before .before .before .before .before .before .before .before .before .before .before .before .if3 .left) (not-wide (s .queue .entries) (s .queue .len) f (c .before .before .before .before .before .before .before .before .before .before .before .before .before .before .before .if4 .left))
     (not-short (s .sizes) (s .queue .entries) (s .queue .len) f (s .players .now) (s .qualities .now) v p q)
     (walked (s .sizes) (s .queue .entries) (s .queue .len) f (s .players .now) (s .qualities .now) v p q (sizes-in (s .sizes) (sym (c .before .before .before .before .before .before .before .before .before .before .before .before .before .before .before .before .before .before .before .is-over .ensures) ∙ c .before .before .before .before .before .before .before .before .before .before .before .before .before .before .before .before .before .before .if2 .left)) (c .before .before .before .before .before .before .before .nobody .ensures) (c .before .before .before .before .before .before .before .before .before .before .players .ensures) (c .before .before .before .before .combinations .ensures))
 

@@ -1,0 +1,45 @@
+-- Each answer, in numbers.
+use mathlib.Core.Path.{_∙_}
+use Rattle.capi.proofs.BestChoice.{none-chosen, choice-refused, choice-found}
+use borrow.Author.Needs.{needs}
+use Rattle.capi.proofs.rounds.in_numbers.Statement.{statement}
+use Rattle.capi.proofs.rounds.in_numbers.Tie as tie
+
+enum-known-verdict : tie.Need-enum-known-verdict
+enum-known-verdict c = search needs
+
+number-requires : tie.Need-number-requires
+number-requires c κs = search needs
+
+refused-requires : tie.Need-refused-requires
+refused-requires c κs = search needs
+
+enum-told : tie.Need-enum-told
+enum-told c = search needs
+
+enum-told-2 : tie.Need-enum-told-2
+enum-told-2 c = search needs
+
+returns : tie.Need-returns
+returns c =
+    let e = c .refused .ensures in
+    choice-refused _ _ (c .before .before .before .verdict .given .1) (none-chosen _ _ (e .0) (e .1 .0) (e .1 .1 ∙ c .before .number .ensures))
+
+returns-2 : tie.Need-returns-2
+returns-2 c = search needs
+
+returns-3 : tie.Need-returns-3
+returns-3 c = choice-found (c .before .before .before .args .choice) (c .enum-told2 .given .1)
+
+pub in-numbers-spec : {M : Type 1} → statement M
+in-numbers-spec =
+    tie.close
+    (tie.spec
+    enum-known-verdict
+    number-requires
+    refused-requires
+    enum-told
+    enum-told-2
+    returns
+    returns-2
+    returns-3)

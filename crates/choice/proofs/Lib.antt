@@ -1,0 +1,4 @@
+pub mod Weighing
+pub mod FullLaws
+pub mod Stepping
+pub mod Checking

@@ -1,0 +1,88 @@
+-- The best so far, one choice at a time, as the code keeps it: one law for each return.
+use Prim.Native.Nat.{ℕ, _+_, _≤_}
+use mathlib.Core.Path.{_≡_, refl, sym, ap, _∙_}
+use mathlib.Core.Bool.{Bool, true, false, cond, _&&_, _||_}
+use mathlib.Core.List.{List, [], map}
+use mathlib.Core.Option.{none, some}
+use lib.Ieee.{lt, isNan}
+use lib.ListN.{length, take, drop}
+use Rattle.base.specs.Refusals.{refused, gives}
+use Rattle.base.proofs.Arrays.{take-map}
+use Rattle.base.proofs.Cases.{never, pick}
+use Rattle.queue.specs.declared.QueueEntry.{QueueEntry}
+use Rattle.matchmaker.specs.Quality.{MatchState}
+use Rattle.seating.specs.declared.TeamComposition.{TeamComposition}
+use Rattle.seating.specs.Seating.{seatsOf, lineup}
+use Rattle.candidate.specs.Choices.{ways}
+use Rattle.candidate.specs.Walks.{through}
+use Rattle.candidate.proofs.Walking.{row-length, through-counts}
+use Rattle.choice.specs.Full.{Terms, passes, chosen}
+use Rattle.choice.specs.Steps.{Part, SoFar, orBetter, isThere, unweighed, passed, weighed, concluding}
+use Rattle.choice.proofs.Weighing.{best-plain}
+
+-- ---- outdo
+
+-- there is a best where one was found
+there : (found : Bool) (p : Part) → isThere (cond found (some p) none) ≡ found
+there true p = refl
+there false p = refl
+
+-- p was found, and x scores lower: p stays
+pub stays : (found : Bool) (p x : Part) → (found && lt (x .score) (p .score)) ≡ true → orBetter (cond found (some p) none) x ≡ p
+stays true p x e = rw e
+stays false p x e = never cc
+
+-- nothing was found, or x does not score lower: x takes the place
+pub outdone : (found : Bool) (p x : Part) → (found && lt (x .score) (p .score)) ≡ false → orBetter (cond found (some p) none) x ≡ x
+outdone true p x e = rw e
+outdone false p x e = refl
+
+-- one more that passed, whichever of the two is kept
+pub one-passed : (tried : ℕ) (found many nan : Bool) (p x : Part) {y : Part} {both bad is : Bool} → both ≡ (many || found) → is ≡ isNan (x .score) → bad ≡ (nan || is) → orBetter (cond found (some p) none) x ≡ y
+    → record { tried = tried + 1; best = some y; many = both; nan = bad } ≡ passed (record { tried = tried; best = cond found (some p) none; many = many; nan = nan }) (x .teams) (x .score)
+one-passed tried found many nan p x m i b e = rw (e, there found p, ← m, ← i, ← b)
+
+-- ---- walk
+
+-- each choice is one more that was tried
+tried-one : (t : Terms) (b : SoFar) (m : MatchState) → weighed t b m .tried ≡ b .tried + 1
+unfolding weighed
+tried-one t b m = pick (λ (x : SoFar). x .tried ≡ b .tried + 1) (passes t m) refl refl
+
+-- and the walk tries every way to choose
+pub all-tried : (t : Terms) (s : TeamComposition) (m : MatchState) (k : ℕ) (q : List ℕ) (from rest : ℕ) (b : SoFar) → from + rest ≤ length q → through s (weighed t) m k (take rest (drop from q)) b .tried ≡ b .tried + ways rest k
+all-tried t s m k q from rest b h =
+    through-counts s (weighed t) (λ (x : SoFar). x .tried) (tried-one t) m k (take rest (drop from q)) b ∙ rw (row-length q from rest h)
+
+-- ---- concluded
+
+module _ (tried : ℕ) (found many nan : Bool) (p : Part) {bad : Bool} (e : bad ≡ (many && nan)) where
+  abbrev all : SoFar
+  all = record { tried = tried; best = cond found (some p) none; many = many; nan = nan }
+
+  -- two or more passed, and one scores NaN: refusal 5
+  pub concludes-refused : bad ≡ true → refused 5 ≡ concluding all
+  unfolding concluding
+  concludes-refused b = rw (sym e ∙ b)
+
+  -- else the best that was found
+  pub concludes-chosen : bad ≡ false → found ≡ true → gives (record { best = some (p .teams); tried = tried }) ≡ concluding all
+  unfolding concluding
+  concludes-chosen b f = rw (sym e ∙ b, f)
+
+  -- or nothing
+  pub concludes-nothing : bad ≡ false → found ≡ false → gives (record { best = none; tried = tried }) ≡ concluding all
+  unfolding concluding
+  concludes-nothing b f = rw (sym e ∙ b, f)
+
+-- ---- best_choice
+
+-- the walk from nobody seated and nothing tried comes to what the full round chooses
+pub all-weighed : (t : Terms) (s : TeamComposition) (es : List QueueEntry) (n : ℕ) {ids : List ℕ} {m : MatchState} {b r : SoFar} → s .a ≤ 8 → s .b ≤ 8 → ids ≡ map (λ x. x .player) es → m ≡ lineup [] [] → b ≡ unweighed
+    → r ≡ through s (weighed t) m (seatsOf s) (take n (drop 0 ids)) b → concluding r ≡ chosen t s (take n es)
+all-weighed t s es n {ids} {m} {b} h g i e u w =
+    ap concluding
+    (w ∙ ap (λ (x : MatchState). through s (weighed t) x (seatsOf s) (take n ids) b) e
+    ∙ ap (λ (x : SoFar). through s (weighed t) (lineup [] []) (seatsOf s) (take n ids) x) u
+    ∙ ap (λ (x : List ℕ). through s (weighed t) (lineup [] []) (seatsOf s) x unweighed) (ap (take n) i ∙ take-map (λ (x : QueueEntry). x .player) n es))
+    ∙ best-plain t s (take n es) h g

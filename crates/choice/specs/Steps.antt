@@ -1,0 +1,66 @@
+-- The best so far while the choices are walked, as the code keeps it. No public contract cites this.
+use Prim.Native.Nat.{ℕ, _+_}
+use mathlib.Core.Bool.{Bool, true, false, cond, _&&_, _||_}
+use mathlib.Core.Option.{Option, none, some}
+use lib.Ieee.{Float, lt, isNan}
+use Rattle.matchmaker.specs.Quality.{MatchState, matchOf}
+use Rattle.base.specs.Refusals.{Outcome, refused, gives}
+use Rattle.choice.specs.Full.{Terms, Selection, passes, scoreIn}
+use Rattle.choice.specs.declared.Best.{Best}
+
+-- a match with its score
+pub record Part : Type 0 where
+  pub teams : MatchState
+  pub score : Float
+
+-- how many were tried, the best of those that passed, whether two or more did, and whether one of these scored NaN
+pub record SoFar : Type 0 where
+  pub tried : ℕ
+  pub best : Option Part
+  pub many : Bool
+  pub nan : Bool
+
+abbrev pub soFarOf : Best → SoFar
+soFarOf b =
+    record {
+      tried = b .tried;
+      best = cond (b .found) (some (record { teams = matchOf (b .teams); score = b .score })) none;
+      many = b .many;
+      nan = b .nan;
+    }
+
+abbrev pub unweighed : SoFar
+unweighed = record { tried = 0; best = none; many = false; nan = false }
+
+-- x takes the place of the best unless it scores lower
+abbrev pub orBetter : Option Part → Part → Part
+orBetter none x = x
+orBetter (some b) x = cond (lt (x .score) (b .score)) b x
+
+abbrev pub isThere : Option Part → Bool
+isThere none = false
+isThere (some b) = true
+
+-- one more choice, which passes; one more, which does not
+abbrev pub passed : SoFar → MatchState → Float → SoFar
+passed b m score =
+    record {
+      tried = b .tried + 1;
+      best = some (orBetter (b .best) (record { teams = m; score = score }));
+      many = b .many || isThere (b .best);
+      nan = b .nan || isNan score;
+    }
+
+abbrev pub skipped : SoFar → SoFar
+skipped b = record { tried = b .tried + 1; best = b .best; many = b .many; nan = b .nan }
+
+unfoldable pub weighed : Terms → SoFar → MatchState → SoFar
+weighed t b m = cond (passes t m) (passed b m (scoreIn t m)) (skipped b)
+
+-- what all choices come to
+abbrev pub teamsIn : Option Part → Option MatchState
+teamsIn none = none
+teamsIn (some p) = some (p .teams)
+
+unfoldable pub concluding : SoFar → Outcome Selection
+concluding b = cond (b .many && b .nan) (refused 5) (gives (record { best = teamsIn (b .best); tried = b .tried }))

@@ -1,0 +1,295 @@
+//! Refusals of a full round's choice, and the choices that refusal 5 looks at.
+
+use super::rules::{bad, bad_pairs, long, over_limit, unlisted, weighted_sum};
+use super::{
+    BAD_ROSTER, CLOCK, LISTED_LIMIT, NO_RECORD, OVER_LIMIT, TEAM_LIMIT, TOO_WIDE, UNRANKED, first,
+    joined_late, large, over, unranked,
+};
+use crate::data::Rows;
+use yilgashe_sys::{
+    Constraints, ProposedMatch, Queue, RegionConstraint, RoleRequirement, SoftObjectives, Team,
+    TeamComposition,
+};
+
+/// What a full round's choice brings.
+#[derive(Debug)]
+pub struct Choice {
+    pub queue: Queue,
+    pub sizes: TeamComposition,
+    pub constraints: Constraints,
+    pub objectives: SoftObjectives,
+    pub rows: Rows,
+}
+
+pub fn best_choice(choice: &Choice) -> u8 {
+    let brought_over = over_limit(&choice.constraints) || unlisted(&choice.objectives);
+    let seats_over = over(&choice.queue) || large(&choice.sizes);
+    let bad = bad(&choice.rows) || bad_pairs(&choice.constraints);
+    let checked = first(&[
+        (seats_over || brought_over || long(&choice.rows), OVER_LIMIT),
+        (bad, BAD_ROSTER),
+        (joined_late(&choice.queue), CLOCK),
+        (choice.queue.len > LISTED_LIMIT, TOO_WIDE),
+    ]);
+    match checked {
+        0 => {
+            let passing = choice.weighed().into_iter().filter(|(passes, _)| *passes);
+            let scores: Vec<f64> = passing.map(|(_, score)| score).collect();
+            first(&[(unranked(&scores), UNRANKED)])
+        }
+        number => number,
+    }
+}
+
+/// For input within the limits.
+impl Choice {
+    /// Of every choice: does it pass each constraint that is brought, and what does it score?
+    pub fn weighed(&self) -> Vec<(bool, f64)> {
+        let choices = choices(self.queue.len, self.sizes.a + self.sizes.b);
+        let teams = choices.iter().map(|places| self.teams(places));
+        let each = teams.map(|teams| {
+            let score = weighted_sum(&self.objectives, &teams, &self.rows);
+            (self.passes(&teams), score)
+        });
+        each.collect()
+    }
+
+    /// The first A places sit in team A, the others in B.
+    fn teams(&self, places: &[usize]) -> ProposedMatch {
+        let team = |places: &[usize]| {
+            let mut players = [0; TEAM_LIMIT];
+            for (seat, &place) in places.iter().enumerate() {
+                players[seat] = self.queue.entries[place].player;
+            }
+            let len = places.len();
+            Team { players, len }
+        };
+        let (a, b) = places.split_at(self.sizes.a);
+        ProposedMatch {
+            a: team(a),
+            b: team(b),
+        }
+    }
+
+    fn passes(&self, teams: &ProposedMatch) -> bool {
+        let Constraints {
+            brought,
+            sizes,
+            roles,
+            regions,
+        } = &self.constraints;
+        let seated = [teams.a.seated(), teams.b.seated()].concat();
+        let sized = || (teams.a.len, teams.b.len) == (sizes.a, sizes.b);
+        let cast = || roles.listed().iter().all(|role| self.cast(role, &seated));
+        let allowed = || self.allowed(regions, teams);
+        (!brought.sizes || sized())
+            && (!brought.roles || cast())
+            && (!brought.parties || self.whole(&seated))
+            && (!brought.latency || self.above_zero(&seated))
+            && (!brought.regions || allowed())
+    }
+
+    fn row(&self, player: u64) -> Option<usize> {
+        self.rows.ids.iter().position(|&id| id == player)
+    }
+
+    fn cast(&self, wanted: &RoleRequirement, seated: &[u64]) -> bool {
+        let rows = seated.iter().filter_map(|&player| self.row(player));
+        let roles = rows.map(|row| self.rows.roles()[row]);
+        let count = roles.filter(|&role| role > 0 && role == wanted.role);
+        let count = count.count();
+        count >= wanted.least && (!wanted.bounded || count <= wanted.most)
+    }
+
+    /// Every row of a seated player's party is that of a seated player.
+    fn whole(&self, seated: &[u64]) -> bool {
+        let parties = self.rows.parties();
+        let rows = seated.iter().filter_map(|&player| self.row(player));
+        let mut seated_parties = rows.map(|row| parties[row]).filter(|&party| party > 0);
+        seated_parties.all(|party| {
+            let mut members = self.rows.ids.iter().zip(parties);
+            members.all(|(id, of)| *of != party || seated.contains(id))
+        })
+    }
+
+    fn above_zero(&self, seated: &[u64]) -> bool {
+        let mut rows = seated.iter().filter_map(|&player| self.row(player));
+        rows.all(|row| self.rows.ratings()[row] > 0.0)
+    }
+
+    /// Each recorded player of A with each of B.
+    fn allowed(&self, allowed: &RegionConstraint, teams: &ProposedMatch) -> bool {
+        let recorded = |team: &Team| -> Vec<u8> {
+            let rows = team.seated().iter().filter_map(|&player| self.row(player));
+            let codes = rows.map(|row| self.rows.regions()[row]);
+            codes.filter(|&code| code < NO_RECORD).collect()
+        };
+        let pairs = allowed.listed();
+        let listed = |a, b| pairs.iter().any(|p| (p.first, p.second) == (a, b));
+        let (of_a, of_b) = (recorded(&teams.a), recorded(&teams.b));
+        let mut each = of_a.iter().flat_map(|&a| of_b.iter().map(move |&b| (a, b)));
+        each.all(|(a, b)| listed(a, b) || listed(b, a))
+    }
+}
+
+/// Every choice of `seats` of `n` places, in ascending order.
+fn choices(n: usize, seats: usize) -> Vec<Vec<usize>> {
+    let mut grown: Vec<Vec<usize>> = vec![Vec::new()];
+    for seat in 0..seats {
+        // So many places have to stay free behind the next one.
+        let behind = seats - seat - 1;
+        let longer = |places: Vec<usize>| {
+            let from = places.last().map_or(0, |last| last + 1);
+            let next = from..n.saturating_sub(behind);
+            next.map(move |place| [&places[..], &[place]].concat())
+        };
+        grown = grown.into_iter().flat_map(longer).collect();
+    }
+    grown
+}
+
+#[cfg(test)]
+mod tests {
+    use super::super::{CLOCK_LIMIT, ways};
+    use super::*;
+    use yilgashe_sys::{Brought, QueueEntry, RegionPair, RoleRequirements, TeamSizeConstraint};
+
+    /// Guests from 1 to n, all rostered alike; no constraint is brought, and wait alone counts.
+    fn choice(n: u64, a: usize, b: usize) -> Choice {
+        let entry = |player| QueueEntry {
+            player,
+            ..QueueEntry::default()
+        };
+        let entries: Vec<QueueEntry> = (1..=n).map(entry).collect();
+        let rows = n as usize;
+        let role = RoleRequirement {
+            role: 1,
+            least: 1,
+            bounded: true,
+            most: 1,
+        };
+        let pair = |first, second| RegionPair { first, second };
+        Choice {
+            queue: Queue::of(&entries),
+            sizes: TeamComposition { a, b },
+            constraints: Constraints {
+                brought: Brought {
+                    sizes: false,
+                    roles: false,
+                    parties: false,
+                    latency: false,
+                    regions: false,
+                },
+                sizes: TeamSizeConstraint { a: 1, b: 1 },
+                roles: RoleRequirements {
+                    of: [role; 8],
+                    len: 1,
+                },
+                regions: RegionConstraint {
+                    pairs: [pair(1, 0); 16],
+                    count: 1,
+                },
+            },
+            objectives: SoftObjectives {
+                kinds: [2; 8],
+                weights: [1.0; 8],
+                len: 1,
+            },
+            rows: Rows {
+                ids: (1..=n).collect(),
+                ratings: Some(vec![100.0; rows]),
+                parties: Some(vec![0; rows]),
+                roles: Some(vec![0; rows]),
+                regions: Some(vec![NO_RECORD; rows]),
+            },
+        }
+    }
+
+    fn passing(choice: &Choice) -> Vec<bool> {
+        let weighed = choice.weighed().into_iter();
+        weighed.map(|(passes, _)| passes).collect()
+    }
+
+    #[test]
+    fn choices_ascend() {
+        assert_eq!(choices(3, 2), [[0, 1], [0, 2], [1, 2]]);
+        assert_eq!(choices(3, 0), [[0; 0]]);
+        assert_eq!(choices(2, 3), [[0; 0]; 0]);
+        assert_eq!(choices(0, 1), [[0; 0]; 0]);
+        for (n, seats) in [(9, 4), (20, 3), (12, 12), (16, 15)] {
+            let listed = choices(n, seats);
+            assert_eq!(listed.len(), ways(n, seats));
+            assert!(listed.is_sorted());
+        }
+    }
+
+    /// Mends one check after another, each showing the next.
+    #[test]
+    fn a_choice_checks_in_order() {
+        let mut wide = choice(21, 9, 1);
+        wide.queue.entries[20].joined = CLOCK_LIMIT + 1;
+        wide.rows.regions = Some(vec![NO_RECORD + 1; 21]);
+        wide.objectives.len = 9;
+        wide.objectives.weights[0] = f64::NAN;
+        wide.constraints.brought.roles = true;
+        wide.constraints.roles.len = 9;
+        wide.constraints.regions.pairs[0].first = NO_RECORD + 1;
+        assert_eq!(best_choice(&wide), 1);
+        wide.sizes.a = 1;
+        assert_eq!(best_choice(&wide), 1);
+        wide.objectives.len = 1;
+        assert_eq!(best_choice(&wide), 1);
+        wide.constraints.roles.len = 0;
+        assert_eq!(best_choice(&wide), 2);
+        wide.rows.regions = Some(vec![NO_RECORD; 21]);
+        assert_eq!(best_choice(&wide), 4);
+        wide.constraints.brought.regions = true;
+        assert_eq!(best_choice(&wide), 2);
+        wide.constraints.regions.pairs[0].first = NO_RECORD;
+        assert_eq!(best_choice(&wide), 4);
+        wide.queue.entries[20].joined = CLOCK_LIMIT;
+        assert_eq!(best_choice(&wide), 6);
+        wide.queue.len = 20;
+        assert_eq!(best_choice(&wide), 5);
+        wide.objectives.weights[0] = 1.0;
+        assert_eq!(best_choice(&wide), 0);
+        wide.objectives.kinds[0] = 3;
+        assert_eq!(best_choice(&wide), 1);
+    }
+
+    #[test]
+    fn only_choices_that_pass_are_ranked() {
+        let mut nan = choice(3, 1, 1);
+        nan.objectives.weights[0] = f64::NAN;
+        assert_eq!(best_choice(&nan), 5);
+        // Guest 3 bars two of the three choices.
+        nan.rows.ratings = Some(vec![1.0, 1.0, 0.0]);
+        assert_eq!(best_choice(&nan), 5);
+        nan.constraints.brought.latency = true;
+        assert_eq!(passing(&nan), [true, false, false]);
+        assert_eq!(best_choice(&nan), 0);
+        nan.rows.ratings = Some(vec![0.0; 3]);
+        assert_eq!(best_choice(&nan), 0);
+    }
+
+    #[test]
+    fn each_constraint_bars_its_own() {
+        let mut three = choice(3, 1, 1);
+        three.rows.roles = Some(vec![1, 1, 0]);
+        three.rows.parties = Some(vec![0, 7, 7]);
+        three.rows.regions = Some(vec![0, 1, 1]);
+        three.constraints.brought.roles = true;
+        assert_eq!(passing(&three), [false, true, true]);
+        three.constraints.brought.regions = true;
+        assert_eq!(passing(&three), [false, true, false]);
+        three.constraints.brought.parties = true;
+        assert_eq!(passing(&three), [false, false, false]);
+        three.constraints.brought.roles = false;
+        three.constraints.brought.regions = false;
+        assert_eq!(passing(&three), [false, false, true]);
+        three.constraints.brought.sizes = true;
+        assert_eq!(passing(&three), [false, false, true]);
+        three.constraints.sizes.b = 0;
+        assert_eq!(passing(&three), [false, false, false]);
+    }
+}
