@@ -109,49 +109,54 @@ fn combinations(
     )
 }
 
-// Every choice of A + B players of the queue, written to the sheets with quality 0.0.
-pub fn generate_candidates(
-    queue: Queue,
-    sizes: TeamComposition,
-    players: &mut [u64],
-    qualities: &mut [f64],
-) -> Formed
-    ensures { λ r. ⌜ leaving r (now (players .exit)) (now (qualities .exit)) ≡ exhaustiveRule sizes (queueOf queue) (record { players = now (players .entry); qualities = now (qualities .entry) }) ⌝ }
-{
-    let n = queue.len;
-    if 64 < n {
-        return Formed::Refused(Refusal::OverLimit);
+// The generator has nothing to set.
+pub struct ExhaustiveGenerator {}
+
+impl ExhaustiveGenerator {
+    // Every choice of A + B players of the queue, written to the sheets with quality 0.0.
+    pub fn generate_candidates(
+        queue: Queue,
+        sizes: TeamComposition,
+        players: &mut [u64],
+        qualities: &mut [f64],
+    ) -> Formed
+        ensures { λ r. ⌜ leaving r (now (players .exit)) (now (qualities .exit)) ≡ exhaustiveRule sizes (queueOf queue) (record { players = now (players .entry); qualities = now (qualities .entry) }) ⌝ }
+    {
+        let n = queue.len;
+        if 64 < n {
+            return Formed::Refused(Refusal::OverLimit);
+        }
+        if sizes.is_over() {
+            return Formed::Refused(Refusal::OverLimit);
+        }
+        if queue.has_late() {
+            return Formed::Refused(Refusal::Clock);
+        }
+        if 20 < n {
+            return Formed::Refused(Refusal::TooWide);
+        }
+        let seats = sizes.a + sizes.b;
+        let many = ways(n, seats);
+        if players.len() < many * seats {
+            return Formed::Refused(Refusal::ShortSheet);
+        }
+        if qualities.len() < many {
+            return Formed::Refused(Refusal::ShortSheet);
+        }
+        let column = queue.players();
+        let queued = column.ids;
+        let start = Marks { at: 0, done: 0 };
+        combinations(
+            sizes,
+            &queued,
+            0,
+            n,
+            seats,
+            seating::nobody(),
+            start,
+            players,
+            qualities,
+        );
+        Formed::Count(many)
     }
-    if sizes.is_over() {
-        return Formed::Refused(Refusal::OverLimit);
-    }
-    if queue.has_late() {
-        return Formed::Refused(Refusal::Clock);
-    }
-    if 20 < n {
-        return Formed::Refused(Refusal::TooWide);
-    }
-    let seats = sizes.a + sizes.b;
-    let many = ways(n, seats);
-    if players.len() < many * seats {
-        return Formed::Refused(Refusal::ShortSheet);
-    }
-    if qualities.len() < many {
-        return Formed::Refused(Refusal::ShortSheet);
-    }
-    let column = queue.players();
-    let queued = column.ids;
-    let start = Marks { at: 0, done: 0 };
-    combinations(
-        sizes,
-        &queued,
-        0,
-        n,
-        seats,
-        seating::nobody(),
-        start,
-        players,
-        qualities,
-    );
-    Formed::Count(many)
 }

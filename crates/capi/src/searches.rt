@@ -9,10 +9,12 @@ ghost use Rattle.search.specs.Greedy.{greedyRule};
 ghost use Rattle.candidate.specs.Exhaustive.{exhaustiveRule};
 ghost use Rattle.candidate.specs.Nearest.{nearestRule};
 ghost use Rattle.capi.specs.Searches.{formedNumbers, sheets, SearchNumbers};
+use candidate::exhaustive::ExhaustiveGenerator;
 use candidate::nearest::GreedyNearestGenerator;
 use objective::score::MatchObjective;
 use queue::Queue;
 use search::beam::BeamSearch;
+use search::greedy::GreedySearch;
 use seating::TeamComposition;
 
 // How many matches were handed out, 0 where it is refused.
@@ -48,7 +50,7 @@ pub extern "C" fn yilgashe_search_greedy(
 ) -> Formed
     ensures { λ r. ⌜ SearchNumbers (greedyRule sizes (ofRatings (now (ids .entry)) (now (ratings .entry))) (queueOf queue) (sheets (now (players .entry)) (now (qualities .entry)))) r (now (players .exit)) (now (qualities .exit)) ⌝ }
 {
-    in_numbers(search::greedy::search(queue, sizes, ids, ratings, players, qualities))
+    in_numbers(GreedySearch::search(queue, sizes, ids, ratings, players, qualities))
 }
 
 #[no_mangle]
@@ -103,5 +105,5 @@ pub extern "C" fn yilgashe_generate_exhaustive(
 ) -> Formed
     ensures { λ r. ⌜ SearchNumbers (exhaustiveRule sizes (queueOf queue) (sheets (now (players .entry)) (now (qualities .entry)))) r (now (players .exit)) (now (qualities .exit)) ⌝ }
 {
-    in_numbers(candidate::exhaustive::generate_candidates(queue, sizes, players, qualities))
+    in_numbers(ExhaustiveGenerator::generate_candidates(queue, sizes, players, qualities))
 }

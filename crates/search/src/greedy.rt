@@ -283,27 +283,32 @@ pub fn check(
     Checked::Passed
 }
 
-// The matches of the queue, written to the sheets with their qualities.
-pub fn search(
-    queue: Queue,
-    sizes: TeamComposition,
-    ids: &[u64],
-    ratings: &[f64],
-    players: &mut [u64],
-    qualities: &mut [f64],
-) -> Formed
-    ensures { λ r. ⌜ leaving r (now (players .exit)) (now (qualities .exit)) ≡ greedyRule sizes (ofRatings (now (ids .entry)) (now (ratings .entry))) (queueOf queue) (record { players = now (players .entry); qualities = now (qualities .entry) }) ⌝ }
-{
-    if let Checked::Refused(refusal) = check(
-        queue,
-        sizes,
-        ids,
-        ratings,
-        players.len(),
-        qualities.len(),
-    ) {
-        return Formed::Refused(refusal);
+// The search itself has nothing to set.
+pub struct GreedySearch {}
+
+impl GreedySearch {
+    // The matches of the queue, written to the sheets with their qualities.
+    pub fn search(
+        queue: Queue,
+        sizes: TeamComposition,
+        ids: &[u64],
+        ratings: &[f64],
+        players: &mut [u64],
+        qualities: &mut [f64],
+    ) -> Formed
+        ensures { λ r. ⌜ leaving r (now (players .exit)) (now (qualities .exit)) ≡ greedyRule sizes (ofRatings (now (ids .entry)) (now (ratings .entry))) (queueOf queue) (record { players = now (players .entry); qualities = now (qualities .entry) }) ⌝ }
+    {
+        if let Checked::Refused(refusal) = check(
+            queue,
+            sizes,
+            ids,
+            ratings,
+            players.len(),
+            qualities.len(),
+        ) {
+            return Formed::Refused(refusal);
+        }
+        let found = matches(sizes, queue, ids, ratings);
+        Formed::Count(found.hand_out(ids, ratings, players, qualities))
     }
-    let found = matches(sizes, queue, ids, ratings);
-    Formed::Count(found.hand_out(ids, ratings, players, qualities))
 }

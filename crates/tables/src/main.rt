@@ -1,4 +1,5 @@
 // The lines of document 01's table that are exercised: the program says what the proved functions answer to them.
+use candidate::exhaustive::ExhaustiveGenerator;
 use queue::Queue;
 use queue::QueueEntry;
 use seating::Formed;
@@ -57,7 +58,7 @@ fn every_pair(guests: usize) {
     io::write_all(1, b"exhaustive 1+1 of ");
     io::print_decimal(1, guests as u64);
     io::write_all(1, b": ");
-    tell(candidate::exhaustive::generate_candidates(
+    tell(ExhaustiveGenerator::generate_candidates(
         waiting(guests),
         sizes,
         &mut players,

@@ -2,7 +2,7 @@
 use crate::queues;
 use crate::sheets;
 use crate::words;
-use candidate::exhaustive;
+use candidate::exhaustive::ExhaustiveGenerator;
 use queue::Queue;
 use seating::TeamComposition;
 use words::Cursor;
@@ -34,6 +34,6 @@ fn with_sheets(
     players: &mut [u64],
     qualities: &mut [f64],
 ) -> Cursor {
-    let given = exhaustive::generate_candidates(queue, sizes, players, qualities);
+    let given = ExhaustiveGenerator::generate_candidates(queue, sizes, players, qualities);
     sheets::expect(text, from, given, players, qualities)
 }

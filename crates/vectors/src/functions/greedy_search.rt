@@ -4,7 +4,7 @@ use crate::queues;
 use crate::sheets;
 use crate::words;
 use queue::Queue;
-use search::greedy;
+use search::greedy::GreedySearch;
 use seating::TeamComposition;
 use words::Cursor;
 
@@ -45,6 +45,6 @@ fn with_sheets(
     players: &mut [u64],
     qualities: &mut [f64],
 ) -> Cursor {
-    let given = greedy::search(queue, sizes, ids, ratings, players, qualities);
+    let given = GreedySearch::search(queue, sizes, ids, ratings, players, qualities);
     sheets::expect(text, from, given, players, qualities)
 }

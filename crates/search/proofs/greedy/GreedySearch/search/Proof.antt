@@ -12,8 +12,8 @@ use Rattle.search.specs.Greedy.{greedyMatches}
 use Rattle.search.proofs.Checked.{passed-check}
 use Rattle.search.proofs.Seats.{greedy-room, greedy-count}
 use borrow.Author.Needs.{needs}
-use Rattle.search.proofs.greedy.search.Statement.{statement}
-use Rattle.search.proofs.greedy.search.Tie as tie
+use Rattle.search.proofs.greedy.GreedySearch.search.Statement.{statement}
+use Rattle.search.proofs.greedy.GreedySearch.search.Tie as tie
 
 check-requires : tie.Need-check-requires
 check-requires c κs = search needs

@@ -12,8 +12,8 @@ use Rattle.matchmaker.specs.Quality.{MatchState, seated}
 use Rattle.seating.specs.Seating.{sizesOver, seatsOf}
 use Rattle.seating.proofs.Laws.{sizes-in}
 use Rattle.candidate.proofs.Answers.{refuses-1, refuses-4, refuses-6, refuses-3, lists, room-small, wide, not-wide, short-players, short-qualities, not-short, walked}
-use Rattle.candidate.proofs.exhaustive.generate_candidates.Statement.{statement}
-use Rattle.candidate.proofs.exhaustive.generate_candidates.Tie as tie
+use Rattle.candidate.proofs.exhaustive.ExhaustiveGenerator.generate_candidates.Statement.{statement}
+use Rattle.candidate.proofs.exhaustive.ExhaustiveGenerator.generate_candidates.Tie as tie
 
 returns : tie.Need-returns
 returns c =
