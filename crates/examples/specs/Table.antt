@@ -114,8 +114,9 @@ Holds (full s queue os m n) = chosen (terms rostered unconstrained os (length os
 Holds (pick reference queue e) = nearest reference [] queue ≡ some e
 
 -- "Differences 0, 100, 400, NaN: 1.0, 0.75, 0.0, 0.0." "Equal vectors do not dominate." "Greedy 2+2: A {1, 4}, B {3, 2}, quality
--- 0.75." "Greedy 0+1: none." "Beam width 0: 1+1 none; 1+0 one match a guest." "Exhaustive 2+2: A {1, 2}, B {3, 4} only." "Exhaustive 1+1 of guests 1, 2, 3: (1,2), (1,3), (2,3)."
--- "Full round on those, wait objective only: (2,3), tried 3." "Reference 1000, entries 1010 then 990: 1010."
+-- 0.75." "Greedy 0+1: none." "Beam width 0: 1+1 none; 1+0 one match a guest." "Exhaustive 2+2: A {1, 2}, B {3, 4} only."
+-- "Exhaustive 1+1 of guests 1, 2, 3: (1,2), (1,3), (2,3)." "Full round on those, wait objective only: (2,3), tried 3."
+-- "Reference 1000, entries 1010 then 990: 1010." The beam of width 4 is no line of the paper, but tells wrong turns apart.
 abbrev pub lines : List Line
 lines =
     difference zero one
