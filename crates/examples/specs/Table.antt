@@ -9,7 +9,7 @@ use lib.ListN.{length, take}
 use Rattle.base.specs.Floats.{zero, one, absOf, minOf}
 use Rattle.base.specs.Lists.{All, seek, keep}
 use Rattle.base.specs.Ranking.{insertBy}
-use Rattle.base.specs.Refusals.{Outcome, gives}
+use Rattle.base.specs.Refusals.{Outcome, refused, gives}
 use Rattle.queue.specs.Time.{secondsOf}
 use Rattle.queue.specs.declared.QueueEntry.{QueueEntry}
 use Rattle.roster.specs.Roster.{Roster, ofRatings, observe}
@@ -28,6 +28,8 @@ use Rattle.constraint.specs.declared.Constraints.{Constraints}
 use Rattle.candidate.specs.Choices.{choices, ways}
 use Rattle.candidate.specs.Exhaustive.{exhaustiveMatches}
 use Rattle.choice.specs.Full.{terms, chosen}
+use Rattle.hall.specs.Hall.{empty, book, deal, answerIn, judge}
+use Rattle.hall.specs.Calls.{Call, keyed, answered, step, after, answers}
 use Rattle.search.specs.Beam.{expansions, stepped, steps, beamOf, beaming, beamMatches}
 use Rattle.search.specs.Greedy.{closer, nearest, filled, anchored, greedyMatches}
 
@@ -87,6 +89,10 @@ unconstrained =
       regions = record { pairs = []; count = 0 };
     }
 
+-- a booking under a key for a guest of rating 1000
+abbrev booking : ℕ → ℕ → Call
+booking key player = keyed key (book (record { player = player; joined = 0; rating = thousand; party = 0; role = 0 }))
+
 pub data Line : Type 0 where
   -- a difference of averages, and its quality
   difference : Float → Float → Line
@@ -100,6 +106,8 @@ pub data Line : Type 0 where
   exhaustive : TeamComposition → List QueueEntry → List MatchState → Line
   -- a full round's choice of some guests by these sizes, nothing brought but these objectives: the match and the number tried
   full : TeamComposition → List QueueEntry → List SoftObjective → MatchState → ℕ → Line
+  -- keyed calls from an empty hall: what each answers, and how many wait at the end
+  calls : List Call → List (Outcome (Unit {0})) → ℕ → Line
   -- the entry picked for a reference rating
   pick : Float → List QueueEntry → QueueEntry → Line
 
@@ -111,11 +119,13 @@ Holds (greedy s ms qs) = (greedyMatches s rostered guests ≡ ms) × (map (λ m.
 Holds (beam s width o) = beamMatches (beaming s width byQuality rostered guests 0) guests ≡ o
 Holds (exhaustive s queue ms) = exhaustiveMatches s queue ≡ ms
 Holds (full s queue os m n) = chosen (terms rostered unconstrained os (length os)) s queue ≡ gives (record { best = some m; tried = n })
+Holds (calls cs os n) = (answers empty cs ≡ map answered os) × (length (after empty cs .waiting .entries) ≡ n)
 Holds (pick reference queue e) = nearest reference [] queue ≡ some e
 
 -- "Differences 0, 100, 400, NaN: 1.0, 0.75, 0.0, 0.0." "Equal vectors do not dominate." "Greedy 2+2: A {1, 4}, B {3, 2}, quality
 -- 0.75." "Greedy 0+1: none." "Beam width 0: 1+1 none; 1+0 one match a guest." "Exhaustive 2+2: A {1, 2}, B {3, 4} only."
 -- "Exhaustive 1+1 of guests 1, 2, 3: (1,2), (1,3), (2,3)." "Full round on those, wait objective only: (2,3), tried 3."
+-- "Booking key 7 guest 1 accepted; again: accepted, one waiting; key 7 guest 2: 7; key 8 guest 1: 9."
 -- "Reference 1000, entries 1010 then 990: 1010." The beam of width 4 is no line of the paper, but tells wrong turns apart.
 abbrev pub lines : List Line
 lines =
@@ -133,9 +143,13 @@ lines =
     ∷ exhaustive (sizes 2 2) guests (lineup (1 ∷ 2 ∷ []) (3 ∷ 4 ∷ []) ∷ [])
     ∷ exhaustive (sizes 1 1) (take 3 guests) (pair 1 2 ∷ pair 1 3 ∷ pair 2 3 ∷ [])
     ∷ full (sizes 1 1) (take 3 guests) (Wait one ∷ []) (pair 2 3) 3
+    ∷ calls (booking 7 1 ∷ []) (gives tt ∷ []) 1
+    ∷ calls (booking 7 1 ∷ booking 7 1 ∷ []) (gives tt ∷ gives tt ∷ []) 1
+    ∷ calls (booking 7 1 ∷ booking 7 2 ∷ []) (gives tt ∷ refused 7 ∷ []) 1
+    ∷ calls (booking 7 1 ∷ booking 8 1 ∷ []) (gives tt ∷ refused 9 ∷ []) 1
     ∷ pick thousand (entry 1 r1010 ∷ entry 2 r990 ∷ []) (entry 1 r1010)
     ∷ []
 
 pub at-the-table : All Holds lines
-unfolding qualityAt absOf minOf dominatesOf anyBelow seek keep observe observations averageFrom closer grown filled anchored insertBy expansions stepped steps beamOf seats secondsOf longer scoreFrom choices ways weighted latencyAt mul add div sub lt le eq ne isNan ofInt ofBits round
-at-the-table = (refl, (refl, (refl, (refl, (refl, (refl, ((refl, refl), ((refl, refl), (refl, (refl, (refl, (refl, (refl, (refl, (refl, tt)))))))))))))))
+unfolding qualityAt absOf minOf dominatesOf anyBelow seek keep observe observations averageFrom closer grown filled anchored insertBy expansions stepped steps beamOf seats secondsOf longer scoreFrom choices ways step judge deal answerIn weighted latencyAt mul add div sub lt le eq ne isNan ofInt ofBits round
+at-the-table = (refl, (refl, (refl, (refl, (refl, (refl, ((refl, refl), ((refl, refl), (refl, (refl, (refl, (refl, (refl, (refl, ((refl, refl), ((refl, refl), ((refl, refl), ((refl, refl), (refl, tt)))))))))))))))))))

@@ -1,0 +1,80 @@
+-- Accepted = waiting + withdrawn + seated.
+use Prim.Native.Nat.{ℕ, _+_}
+use mathlib.Core.Path.{_≡_, refl, _∙_}
+use mathlib.Core.Bool.{true, false, _&&_}
+use mathlib.Core.List.{List, [], _∷_}
+use native.Mathlib.Omega.{arith}
+use lib.ListN.{length, length-append}
+use Rattle.base.proofs.Members.{length-remove, length-stay}
+use Rattle.queue.specs.declared.QueueEntry.{QueueEntry}
+use Rattle.matchmaker.specs.Quality.{MatchState}
+use Rattle.seating.specs.Seating.{seats}
+use Rattle.hall.specs.Hall.{HallState, book, withdraw, deal, signed, Judgement, known, clash, full, fresh, judge, Turn, turn}
+use Rattle.hall.specs.Rounds.{sizesOf}
+use Rattle.hall.specs.Calls.{Call, keyed, round, answered, Step, step, after, answers, mark, isOriginal, isBooking, isWithdrawal, matchesOf, taken, one, acceptedIn, withdrawnIn, seatedIn}
+use Rattle.hall.specs.declared.Booking.{Booking}
+use Rattle.hall.proofs.Keys.{book-elim, withdraw-elim, signatures, toMark, mark-judge}
+use Rattle.hall.proofs.Found.{Drawn, findings}
+use Rattle.hall.proofs.Orderly.{waits, Sane, served, step-served, sane-step, drawnFrom, drawn, told, left}
+use Rattle.hall.proofs.Thin.{grow-step}
+
+-- ---- one call
+
+-- who waits then, with those who withdrew and those seated by the call, are who waited before, with the one accepted
+Balanced : HallState → Call → Step → Type 0
+Balanced h c t =
+    length (t .hall .waiting .entries)
+    + (one (isOriginal (mark (signatures (h .log .records)) c) && (isWithdrawal c && taken (t .answer))) + length (seats (matchesOf c (t .answer))))
+    ≡ length (h .waiting .entries) + one (isOriginal (mark (signatures (h .log .records)) c) && (isBooking c && taken (t .answer)))
+
+-- a booking that is not refused adds one
+balance-book : (ws : List QueueEntry) (b : Booking) → length (deal (book b) ws .waiting) + (0 + 0) ≡ length ws + one (taken (answered (deal (book b) ws .answer)))
+balance-book ws b =
+    book-elim (λ r. length (r .waiting) + (0 + 0) ≡ length ws + one (taken (answered (r .answer)))) b ws refl refl refl (λ m l. rw length-append (omega arith))
+
+-- a withdrawal that is not refused takes one
+balance-withdraw : (ws : List QueueEntry) (p : ℕ) → length (deal (withdraw p) ws .waiting) + (one (taken (answered (deal (withdraw p) ws .answer))) + 0) ≡ length ws + 0
+balance-withdraw ws p =
+    withdraw-elim (λ r. length (r .waiting) + (one (taken (answered (r .answer))) + 0) ≡ length ws + 0) p ws refl
+    (λ m. omega (arith, length-remove (λ (e : QueueEntry). e .player) p ws (waits p ws ∙ m)))
+
+-- every call is balanced
+balance-served : (h : HallState) (c : Call) → Sane h → Balanced h c (served h c)
+unfolding Balanced seats
+balance-served h (keyed k (book b)) s = rw (mark-judge (h .log .records) (signed k (book b)) (s .readable)) (go (judge (h .log .records) (signed k (book b))))
+  where
+    go : (v : Judgement) → (let t : Turn = turn h (signed k (book b)) (deal (book b) (h .waiting .entries)) v in
+        length (t .hall .waiting .entries) + (one (isOriginal (toMark v) && (false && taken (answered (t .answer)))) + 0)
+        ≡ length (h .waiting .entries) + one (isOriginal (toMark v) && (true && taken (answered (t .answer)))))
+    go (known a) = refl
+    go clash = refl
+    go full = refl
+    go fresh = balance-book (h .waiting .entries) b
+balance-served h (keyed k (withdraw p)) s = rw (mark-judge (h .log .records) (signed k (withdraw p)) (s .readable)) (go (judge (h .log .records) (signed k (withdraw p))))
+  where
+    go : (v : Judgement) → (let t : Turn = turn h (signed k (withdraw p)) (deal (withdraw p) (h .waiting .entries)) v in
+        length (t .hall .waiting .entries) + (one (isOriginal (toMark v) && (true && taken (answered (t .answer)))) + 0)
+        ≡ length (h .waiting .entries) + one (isOriginal (toMark v) && (false && taken (answered (t .answer)))))
+    go (known a) = refl
+    go clash = refl
+    go full = refl
+    go fresh = balance-withdraw (h .waiting .entries) p
+balance-served h (round c) s =
+    let ms : List MatchState = drawnFrom (findings c (h .waiting .entries)) in
+    let r : Drawn (sizesOf (c .round)) (h .waiting .entries) ms = drawn h c s in
+    rw (told h c s, left h c)
+    (omega (arith, length-stay (λ (e : QueueEntry). e .player) (seats ms) (h .waiting .entries) (r .different) (r .queued) (s .orderly .players)))
+
+-- and so is every step
+balance-step : (h : HallState) (c : Call) → Sane h → Balanced h c (step h c)
+balance-step h c s = rw (step-served h c s) (balance-served h c s)
+
+-- ---- any list of calls
+
+-- and so are they all together
+pub conserve : (h : HallState) (cs : List Call) → Sane h →
+    length (after h cs .waiting .entries) + (withdrawnIn (signatures (h .log .records)) cs (answers h cs) + seatedIn cs (answers h cs))
+    ≡ length (h .waiting .entries) + acceptedIn (signatures (h .log .records)) cs (answers h cs)
+unfolding Balanced
+conserve h [] s = refl
+conserve h (c ∷ cs) s = rw (grow-step h c s) (omega (arith, conserve (step h c .hall) cs (sane-step h c s), balance-step h c s))

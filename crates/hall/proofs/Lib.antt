@@ -1,0 +1,13 @@
+pub mod KeyLaws
+pub mod RoundLaws
+pub mod ChoiceRounds
+pub mod Keys
+pub mod Found
+pub mod Orderly
+pub mod Thin
+pub mod Resend
+pub mod Origin
+pub mod First
+pub mod Count
+pub mod Demand
+pub mod Runs
