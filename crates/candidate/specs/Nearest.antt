@@ -7,7 +7,7 @@ use lib.Dec.{ltb, eqb}
 use lib.Ieee.{Float, binary64, ofBits}
 use lib.ListN.{length, take, drop}
 use Rattle.base.specs.Floats as Floats
-use Rattle.base.specs.Refusals.{Outcome, refused, gives, guarded}
+use Rattle.base.specs.Refusals.{refused, gives, guarded}
 use Rattle.base.specs.Ranking.{lower, sortBy, unrankable}
 use Rattle.queue.specs.declared.QueueEntry.{QueueEntry}
 use Rattle.queue.specs.Queue.{QueueState}

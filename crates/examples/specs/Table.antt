@@ -4,7 +4,7 @@ use mathlib.Core.Path.{_≡_, refl}
 use mathlib.Core.Bool.{false}
 use mathlib.Core.List.{List, [], _∷_, map}
 use mathlib.Core.Option.{some}
-use lib.Ieee.{Float, nan, binary64, add, sub, mul, div, lt, le, eq, ne, isNan, neg, round, ofInt, ofBits}
+use lib.Ieee.{Float, nan, binary64, add, sub, mul, div, lt, le, eq, ne, isNan, round, ofInt, ofBits}
 use lib.ListN.{length, take}
 use Rattle.base.specs.Floats.{zero, one, absOf, minOf}
 use Rattle.base.specs.Lists.{All, seek, keep}

@@ -1,19 +1,18 @@
 -- Document 01, "Hall (added)": lists of calls, their originals and resends, and the numbers that demand 3 speaks of.
-use Prim.Native.Nat.{ℕ, zero, suc, _+_, _≤_}
-use mathlib.Core.Path.{_≡_}
+use Prim.Native.Nat.{ℕ, zero, suc, _+_}
 use mathlib.Core.Bool.{Bool, true, false, cond, _&&_}
-use mathlib.Core.List.{List, [], _∷_, _++_, map}
+use mathlib.Core.List.{List, [], _∷_, _++_}
 use mathlib.Core.Option.{Option, none, some}
 use lib.Dec.{eqb, ltb}
 use lib.ListN.{length, take, drop}
 use Rattle.base.specs.Refusals.{Outcome, refused, gives}
-use Rattle.base.specs.Lists.{seek, member, Distinct}
+use Rattle.base.specs.Lists.{seek, member}
 use Rattle.queue.specs.Queue.{withoutFirst, withoutAll}
 use Rattle.queue.specs.declared.QueueEntry.{QueueEntry}
 use Rattle.matchmaker.specs.Quality.{MatchState}
 use Rattle.seating.specs.declared.TeamComposition.{TeamComposition}
 use Rattle.seating.specs.Seating.{HandedOut, seatsOf, lineup, seats}
-use Rattle.hall.specs.Hall.{HallState, Deed, book, withdraw, entryOf, kindOf, playerOf, Signature, signed, keyedRule}
+use Rattle.hall.specs.Hall.{HallState, Deed, book, withdraw, entryOf, Signature, signed, keyedRule}
 use Rattle.hall.specs.Rounds.{RoundCall, sizesOf, roundRule}
 
 -- "keyed bookings, keyed withdrawals and greedy, beam and full rounds"

@@ -1,10 +1,10 @@
 -- Demand 3: one statement over every list of calls from an empty hall.
 use Prim.Native.Nat.{ℕ, _+_, _≤_, _<_}
 use mathlib.Core.Path.{_≡_}
-use mathlib.Core.Bool.{Bool, true, false}
+use mathlib.Core.Bool.{Bool, false}
 use mathlib.Core.Logic.{_↔_}
 use mathlib.Core.List.{List, [], _∷_, _++_, map}
-use mathlib.Core.Option.{Option, none, some}
+use mathlib.Core.Option.{none, some}
 use lib.Ieee.{lt}
 use lib.ListN.{length}
 use Rattle.base.specs.Refusals.{Outcome, refused, gives}
@@ -13,10 +13,10 @@ use Rattle.queue.specs.Queue.{holding}
 use Rattle.queue.specs.declared.QueueEntry.{QueueEntry}
 use Rattle.matchmaker.specs.Quality.{MatchState, seated}
 use Rattle.seating.specs.declared.TeamComposition.{TeamComposition}
-use Rattle.seating.specs.Seating.{HandedOut, seats}
+use Rattle.seating.specs.Seating.{seats}
 use Rattle.choice.specs.Full.{Terms, scoreIn, passing}
-use Rattle.hall.specs.Hall.{HallState, logging, empty, Deed, kindOf, playerOf, Signature}
-use Rattle.hall.specs.Rounds.{RoundCall, Round, full, sizesOf}
+use Rattle.hall.specs.Hall.{HallState, logging, empty, Deed, kindOf, playerOf}
+use Rattle.hall.specs.Rounds.{RoundCall, full, sizesOf}
 use Rattle.hall.specs.Calls.{Call, keyed, round, Answer, answered, handed, step, after, answers, mark, original, resend, originals, leave, thin, keysOf, different, matchesOf, acceptedIn, withdrawnIn, seatedIn, replay}
 use Rattle.hall.specs.declared.KeyRecord.{KeyRecord}
 

@@ -1,7 +1,7 @@
 -- Document 01, "Hall (added)": the greedy, the beam and the full round.
 use Prim.Native.Nat.{ℕ}
 use mathlib.Core.Bool.{Bool, false, cond, _||_}
-use mathlib.Core.List.{List, [], _∷_, map}
+use mathlib.Core.List.{List, [], _∷_}
 use mathlib.Core.Option.{Option, none, some}
 use lib.Dec.{ltb}
 use lib.Ieee.{Float}
@@ -10,7 +10,7 @@ use Rattle.base.specs.Floats as Floats
 use Rattle.base.specs.Refusals.{Outcome, refused, gives, guarded}
 use Rattle.base.specs.Lists.{any}
 use Rattle.queue.specs.Time.{late}
-use Rattle.queue.specs.Queue.{QueueState, isLate, withoutAll, holding}
+use Rattle.queue.specs.Queue.{isLate, withoutAll, holding}
 use Rattle.queue.specs.declared.QueueEntry.{QueueEntry}
 use Rattle.roster.specs.Roster.{Roster, ratingsCheck, deviationsCheck, rulesCheck}
 use Rattle.matchmaker.specs.Quality.{MatchState, qualityOf}

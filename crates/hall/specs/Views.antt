@@ -5,7 +5,6 @@ use mathlib.Core.List.{List}
 use lib.Ieee.{Float}
 use Rattle.base.specs.Refusals.{Outcome, checkedOf}
 use Rattle.queue.specs.Queue.{queueOf}
-use Rattle.seating.specs.declared.Formed.{Formed}
 use Rattle.seating.specs.Seating as Seating
 use Rattle.hall.specs.Hall.{Turn, Deal, Judgement, known, clash, full, fresh, hallOf}
 use Rattle.hall.specs.Rounds.{RoundTurn}
