@@ -2,3 +2,5 @@ pub mod Softs
 pub mod Maps
 pub mod Choices
 pub mod BestChoice
+pub mod HallNumbers
+pub mod Runs

@@ -5,3 +5,4 @@ pub mod Rules
 pub mod Selections
 pub mod Searches
 pub mod FullRounds
+pub mod Halls

@@ -1,5 +1,5 @@
 -- An outcome in numbers, as it crosses to C: the refusal, 0 where there is none, and the value, a given one where it is refused.
-use Prim.Native.Nat.{ℕ}
+use Prim.Native.Nat.{ℕ, zero, suc}
 use mathlib.Core.Bool.{Bool, true, false}
 use mathlib.Core.Option.{Option, none, some}
 use Rattle.base.specs.Refusals.{Outcome, refused, gives}
@@ -12,6 +12,11 @@ module _ {A : Type 0} where
   abbrev pub valueOr : A → Outcome A → A
   valueOr d (refused n) = d
   valueOr d (gives a) = a
+
+  -- back from numbers: the outcome that a refusal and a value tell
+  abbrev pub outcomeIn : ℕ → A → Outcome A
+  outcomeIn zero a = gives a
+  outcomeIn (suc n) a = refused (suc n)
 
   abbrev pub foundIn : Outcome (Option A) → Bool
   foundIn (refused n) = false

@@ -21,3 +21,6 @@ pub mod searches;
 
 // The best choice of a full round.
 pub mod rounds;
+
+// The hall's calls.
+pub mod halls;

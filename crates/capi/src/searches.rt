@@ -24,7 +24,7 @@ pub struct Formed {
     pub refusal: u8,
 }
 
-fn in_numbers(formed: seating::Formed) -> Formed
+pub(crate) fn in_numbers(formed: seating::Formed) -> Formed
     ensures { λ r. ⌜ r ≡ formedNumbers (formedOf formed) ⌝ }
 {
     match formed {

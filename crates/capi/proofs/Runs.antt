@@ -1,0 +1,44 @@
+-- From what the exported calls promise to demand 3: each is a call that met its promise, so a chain of them is a run of the hall.
+use Prim.Native.Nat.{ℕ}
+use mathlib.Core.Path.{_≡_, subst}
+use mathlib.Core.Bool.{true, false}
+use mathlib.Core.List.{List}
+use lib.Ieee.{Float}
+use lib.ListN.{take}
+use Rattle.base.specs.Lists.{any}
+use Rattle.hall.specs.declared.Hall.{Hall}
+use Rattle.hall.specs.Hall.{HallState, hallOf, empty, Deed, keyedRule}
+use Rattle.hall.specs.Rounds.{RoundCall, roundRule}
+use Rattle.hall.specs.Calls.{Call, keyed, round, Answer, answered, handed}
+use Rattle.hall.specs.Runs.{Met, keyed-met, round-met, Run}
+use Rattle.hall.proofs.Runs.{Kept, demand3-of-runs}
+use Rattle.capi.specs.Scores.{isNoKind}
+use Rattle.capi.specs.Halls.{turnIn, roundIn, RoundNumbers, turnedAway, fullRule}
+use Rattle.capi.specs.declared.halls.Keyed.{Keyed}
+use Rattle.capi.specs.declared.halls.Rounded.{Rounded}
+use Rattle.capi.specs.declared.scores.SoftObjectives.{SoftObjectives}
+
+-- an exported booking or withdrawal met the hall's promise
+pub keyed-export-met : (h : HallState) (k : ℕ) (d : Deed) (r : Keyed) → turnIn r ≡ keyedRule h k d →
+    Met h (keyed k d) (answered (turnIn r .answer)) (hallOf (r .hall))
+keyed-export-met h k d r e = keyed-met (turnIn r) e
+
+module _ (h : HallState) (c : RoundCall) (r : Rounded) (ps : List ℕ) (qs : List Float) where
+  -- an exported greedy or beam round met the hall's promise
+  pub round-export-met : RoundNumbers (roundRule h c) r ps qs → Met h (round c) (handed (roundIn r ps qs .handed) (r .tried)) (hallOf (r .hall))
+  round-export-met n = round-met (roundIn r ps qs) (n .turn)
+
+  -- so did an exported full round whose listed codes are all kinds
+  pub full-export-met : (o : SoftObjectives) → any isNoKind (take (o .len) (o .kinds)) ≡ false → RoundNumbers (fullRule h o c) r ps qs →
+      Met h (round c) (handed (roundIn r ps qs .handed) (r .tried)) (hallOf (r .hall))
+  full-export-met o e n = round-met (roundIn r ps qs) (rw e at n .turn)
+
+  -- a full round with a code that is no kind leaves the hall and the sheets, so a run goes on as if it had not been called
+  pub no-kind-turned-away : (o : SoftObjectives) → any isNoKind (take (o .len) (o .kinds)) ≡ true → RoundNumbers (fullRule h o c) r ps qs →
+      roundIn r ps qs ≡ turnedAway h (c .sheets) 1
+  no-kind-turned-away o e n = rw e at n .turn
+
+-- demand 3 of every run from the exported empty hall
+pub demand3-of-exports : (start : Hall) → hallOf start ≡ empty → (calls : List Call) (rs : List Answer) (l : HallState) →
+    Run (hallOf start) calls rs l → Kept calls rs l
+demand3-of-exports start e calls rs l run = demand3-of-runs calls rs l (subst (λ (h : HallState). Run h calls rs l) e run)

@@ -1,0 +1,70 @@
+-- What the exported calls of the hall answer.
+use Prim.Native.Nat.{ℕ}
+use mathlib.Core.Path.{_≡_}
+use mathlib.Core.Bool.{cond}
+use mathlib.Core.List.{List}
+use lib.Ieee.{Float}
+use lib.ListN.{take}
+use Rattle.base.specs.Lists.{any}
+use Rattle.base.specs.Refusals.{refused, checkedOf}
+use Rattle.roster.specs.Roster.{Roster}
+use Rattle.seating.specs.declared.TeamComposition.{TeamComposition}
+use Rattle.seating.specs.Seating.{Sheets, formedOf}
+use Rattle.choice.specs.Full.{terms}
+use Rattle.hall.specs.Hall.{HallState, hallOf, Turn}
+use Rattle.hall.specs.Rounds.{full, RoundCall, RoundTurn, roundRule}
+use Rattle.hall.specs.declared.Keyed as keys
+use Rattle.hall.specs.declared.rounds.Rounded as rounds
+use Rattle.capi.specs.Numbers.{refusalOf, valueOr, outcomeIn}
+use Rattle.capi.specs.Rules.{constraintsOf}
+use Rattle.capi.specs.Scores.{isNoKind, softsOf}
+use Rattle.capi.specs.Searches.{sheets}
+use Rattle.capi.specs.declared.halls.Keyed.{Keyed}
+use Rattle.capi.specs.declared.halls.Rounded.{Rounded}
+use Rattle.capi.specs.declared.rules.Constraints.{Constraints}
+use Rattle.capi.specs.declared.scores.SoftObjectives.{SoftObjectives}
+
+-- ---- bookings and withdrawals
+
+-- the hall's answer in numbers
+abbrev pub keyedNumbers : keys.Keyed → Keyed
+keyedNumbers k = record { hall = k .hall; refusal = refusalOf (checkedOf (k .answer)) }
+
+-- the turn that the numbers tell, so that an export promises the hall's own rule
+abbrev pub turnIn : Keyed → Turn
+turnIn k = record { hall = hallOf (k .hall); answer = outcomeIn (k .refusal) tt }
+
+-- ---- rounds
+
+-- the round's answer in numbers
+abbrev pub roundedNumbers : rounds.Rounded → Rounded
+roundedNumbers r = record { hall = r .hall; count = valueOr 0 (formedOf (r .answer)); tried = r .tried; refusal = refusalOf (formedOf (r .answer)) }
+
+-- the turn that the numbers tell, beside the final content of the sheets
+abbrev pub roundIn : Rounded → List ℕ → List Float → RoundTurn
+roundIn r players qualities =
+    record {
+      hall = hallOf (r .hall);
+      handed = record { answer = outcomeIn (r .refusal) (r .count); sheets = sheets players qualities };
+      tried = r .tried;
+    }
+
+-- the numbers tell this turn; the count, which a refusal hides from it, is 0 there
+pub record RoundNumbers (t : RoundTurn) (r : Rounded) (players : List ℕ) (qualities : List Float) : Type 0 where
+  pub turn : roundIn r players qualities ≡ t
+  pub count : r .count ≡ valueOr 0 (t .handed .answer)
+
+-- ---- the full round
+
+-- the call of the hall that an exported full round stands for
+abbrev pub fullCall : TeamComposition → Constraints → SoftObjectives → ℕ → Roster → Sheets → RoundCall
+fullCall sizes c o clock r s =
+    record { round = full sizes (terms r (constraintsOf c) (softsOf (o .kinds) (o .weights)) (o .len)); clock = clock; sheets = s }
+
+-- a round that is refused and changes nothing
+abbrev pub turnedAway : HallState → Sheets → ℕ → RoundTurn
+turnedAway h s n = record { hall = h; handed = record { answer = refused n; sheets = s }; tried = 0 }
+
+-- a soft kind that is none, or the round
+abbrev pub fullRule : HallState → SoftObjectives → RoundCall → RoundTurn
+fullRule h o c = cond (any isNoKind (take (o .len) (o .kinds))) (turnedAway h (c .sheets) 1) (roundRule h c)
