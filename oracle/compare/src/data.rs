@@ -1,8 +1,10 @@
 //! What calls bring besides queues.
 
+mod calls;
 mod rules;
 mod searches;
 
+pub use calls::*;
 pub use rules::*;
 pub use searches::*;
 

@@ -3,11 +3,13 @@
 //! Each irregularity is rare, so that most cases reach the Rust.
 
 mod choices;
+mod lists;
 mod rules;
 mod scores;
 mod searches;
 
 pub use choices::*;
+pub use lists::*;
 pub use rules::*;
 pub use scores::*;
 pub use searches::*;

@@ -6,6 +6,7 @@ pub mod data;
 pub mod draw;
 pub mod families;
 pub mod function;
+pub mod lists;
 pub mod model;
 pub mod options;
 pub mod rng;

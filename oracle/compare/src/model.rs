@@ -1,10 +1,13 @@
-//! Which refusal each call must get, written from document 01 and its readings alone. 0 is none.
+//! Which refusal each call must get, written from document 01 and its readings alone. 0 is none. The hall is here whole.
 
 mod choices;
+mod greedy;
+pub mod hall;
 mod rules;
 mod searches;
 
 pub use choices::*;
+pub use greedy::*;
 pub use rules::*;
 pub use searches::*;
 

@@ -4,9 +4,11 @@ pub struct Options {
     pub cases: u64,
     pub seed: u64,
     pub only: Option<String>,
+    /// Of the hall's lists.
+    pub hall_calls: Option<u64>,
 }
 
-/// Reads `--cases N`, `--seed S` and, where `families` is not empty, `--only FAMILY`.
+/// Reads `--cases N`, `--seed S` and, where `families` is not empty, `--only FAMILY` and `--hall-calls N`.
 pub fn parse(
     arguments: impl Iterator<Item = String>,
     cases: u64,
@@ -17,6 +19,7 @@ pub fn parse(
         cases,
         seed: 1,
         only: None,
+        hall_calls: None,
     };
     while let Some(name) = arguments.next() {
         let value = arguments
@@ -25,6 +28,9 @@ pub fn parse(
         match name.as_str() {
             "--cases" => options.cases = number(&name, &value)?,
             "--seed" => options.seed = number(&name, &value)?,
+            "--hall-calls" if !families.is_empty() => {
+                options.hall_calls = Some(number(&name, &value)?)
+            }
             "--only" if families.contains(&value.as_str()) => options.only = Some(value),
             "--only" if !families.is_empty() => {
                 return Err(format!(
@@ -58,11 +64,20 @@ mod tests {
         let options = read("--seed 7 --only time").expect("good options");
         assert_eq!((options.cases, options.seed), (10, 7));
         assert_eq!(options.only.as_deref(), Some("time"));
+        assert_eq!(options.hall_calls, None);
+        let options = read("--hall-calls 300").expect("good options");
+        assert_eq!(options.hall_calls, Some(300));
     }
 
     #[test]
     fn bad_options_are_named() {
-        for line in ["--seed", "--seed x", "--only hall", "--what 1"] {
+        for line in [
+            "--seed",
+            "--seed x",
+            "--only hall",
+            "--what 1",
+            "--hall-calls x",
+        ] {
             assert!(read(line).is_err(), "{line}");
         }
     }

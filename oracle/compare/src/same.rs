@@ -1,7 +1,7 @@
 //! When two answers are the same: floats bit for bit, save that all NaNs are equal and both zeros are equal.
 
-use crate::data::Sheets;
-use yilgashe_sys::{MatchObjectiveVector, Queue, QueueEntry};
+use crate::data::{Answer, Sheets};
+use yilgashe_sys::{Hall, KeyLog, KeyRecord, MatchObjectiveVector, Queue, QueueEntry};
 
 pub trait Same {
     fn same(&self, other: &Self) -> bool;
@@ -25,7 +25,7 @@ macro_rules! exactly {
         })*
     };
 }
-exactly!((), bool, u8, u32, u64, usize);
+exactly!((), bool, u8, u32, u64, usize, KeyRecord);
 
 impl<T: Same> Same for [T] {
     fn same(&self, other: &Self) -> bool {
@@ -76,6 +76,27 @@ impl Same for Queue {
 impl Same for Sheets {
     fn same(&self, other: &Self) -> bool {
         self.players.same(&other.players) && self.qualities.same(&other.qualities)
+    }
+}
+
+/// As a queue: places past `len` are free.
+impl Same for KeyLog {
+    fn same(&self, other: &Self) -> bool {
+        self.len == other.len && self.noted().same(other.noted())
+    }
+}
+
+/// All that it holds, in its order.
+impl Same for Hall {
+    fn same(&self, other: &Self) -> bool {
+        self.waiting.same(&other.waiting) && self.log.same(&other.log)
+    }
+}
+
+impl Same for Answer {
+    fn same(&self, other: &Self) -> bool {
+        (self.refusal, self.count, self.tried) == (other.refusal, other.count, other.tried)
+            && self.sheets.same(&other.sheets)
     }
 }
 
@@ -152,6 +173,59 @@ mod tests {
         other = queue;
         other.len = 66;
         assert!(!queue.same(&other));
+    }
+
+    #[test]
+    fn halls_count_up_to_len() {
+        let record = |key| KeyRecord {
+            key,
+            player: 1,
+            kind: 0,
+            answer: 9,
+        };
+        let hall = Hall {
+            waiting: Queue::of(&[entry(1)]),
+            log: KeyLog::of(&[record(1), record(2)]),
+        };
+        let mut other = hall;
+        other.waiting.entries[1] = entry(9);
+        other.log.records[2] = record(9);
+        assert!(hall.same(&other));
+        other.log.records[1].answer = 0;
+        assert!(!hall.same(&other));
+        other = hall;
+        other.waiting.entries[0].rating = 3.0;
+        assert!(!hall.same(&other));
+        other = hall;
+        other.log.len = 1;
+        assert!(!hall.same(&other));
+        other.log.len = 1025;
+        assert!(!hall.same(&other));
+    }
+
+    #[test]
+    fn answers_differ_in_each_part() {
+        let answer = Answer {
+            refusal: 0,
+            count: 1,
+            tried: 2,
+            sheets: Sheets {
+                players: vec![1],
+                qualities: vec![f64::NAN],
+            },
+        };
+        assert!(answer.same(&answer.clone()));
+        let changes: [fn(&mut Answer); 4] = [
+            |answer| answer.refusal = 1,
+            |answer| answer.count = 2,
+            |answer| answer.tried = 3,
+            |answer| answer.sheets.players[0] = 9,
+        ];
+        for change in changes {
+            let mut other = answer.clone();
+            change(&mut other);
+            assert!(!answer.same(&other));
+        }
     }
 
     #[test]

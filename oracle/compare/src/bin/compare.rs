@@ -1,7 +1,9 @@
-//! compare [--cases N] [--seed S] [--only FAMILY]: N cases for each function; exits 1 on a difference.
+//! compare [--cases N] [--seed S] [--only FAMILY] [--hall-calls N]: N cases for each function, and lists of N calls of the hall;
+//! exits 1 on a difference.
 
 use compare::families::FAMILIES;
 use compare::function::Listed;
+use compare::lists::{self, Library, Modelled};
 use compare::options::{self, Options};
 use compare::rng::Rng;
 use compare::tally::{self, Tally};
@@ -11,12 +13,34 @@ use std::process::exit;
 /// So many differences of a function are printed.
 const SHOWN: usize = 5;
 
+/// `--only` this runs the hall's lists alone.
+const HALL: &str = "hall";
+/// So many calls of the hall, where it alone is run and no number is given.
+const HALL_CALLS: u64 = 20_000;
+
 fn main() {
-    let names: Vec<&str> = FAMILIES.iter().map(|(name, _)| *name).collect();
+    let mut names: Vec<&str> = FAMILIES.iter().map(|(name, _)| *name).collect();
+    names.push(HALL);
     let options = options::parse(env::args().skip(1), 10_000, &names).unwrap_or_else(|error| {
-        eprintln!("{error}\nusage: compare [--cases N] [--seed S] [--only FAMILY]");
+        eprintln!(
+            "{error}\nusage: compare [--cases N] [--seed S] [--only FAMILY] [--hall-calls N]"
+        );
         exit(2)
     });
+    let hall_alone = options.only.as_deref() == Some(HALL);
+    let mut differences = 0;
+    if !hall_alone {
+        differences += run_families(&options);
+    }
+    let default = if hall_alone { HALL_CALLS } else { 0 };
+    let calls = options.hall_calls.unwrap_or(default);
+    if calls > 0 {
+        differences += run_hall(options.seed, calls);
+    }
+    exit(i32::from(differences > 0));
+}
+
+fn run_families(options: &Options) -> usize {
     println!("{}", tally::heading());
     let (mut cases, mut differences) = (0, 0);
     for (family, functions) in FAMILIES {
@@ -24,14 +48,26 @@ fn main() {
             continue;
         }
         for function in *functions {
-            let tally = run(&options, family, function);
+            let tally = run(options, family, function);
             println!("{}", tally.line(family, function.name));
             cases += tally.cases;
             differences += tally.differences;
         }
     }
     println!("compared: {cases} cases, {differences} differences");
-    exit(i32::from(differences > 0));
+    differences
+}
+
+fn run_hall(seed: u64, calls: u64) -> usize {
+    let mut shown = 0;
+    let counts = lists::run::<Library, Modelled>(seed, calls, &mut |difference| {
+        shown += 1;
+        if shown <= SHOWN {
+            println!("difference: hall, {difference}");
+        }
+    });
+    println!("{}", counts.lines());
+    counts.differences
 }
 
 fn run(options: &Options, family: &str, function: &Listed) -> Tally {

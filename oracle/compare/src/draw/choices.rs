@@ -7,7 +7,7 @@ use super::{Scale, Takes, constraints, infinite_skill, ranking_objectives, rows}
 use crate::data::Rows;
 use crate::model::{self, BAD_ROSTER, Choice, OBJECTIVE_LIMIT, OVER_LIMIT, TEAM_LIMIT};
 use crate::rng::Rng;
-use yilgashe_sys::{Brought, ProposedMatch, SoftObjectives, Team, TeamComposition};
+use yilgashe_sys::{Brought, ProposedMatch, Queue, SoftObjectives, Team, TeamComposition};
 
 /// So much can be over limit or bad that most of what is comes to another draw.
 pub fn choice(rng: &mut Rng, scale: Scale) -> Choice {
@@ -19,9 +19,18 @@ pub fn choice(rng: &mut Rng, scale: Scale) -> Choice {
     choice
 }
 
-/// Any; or such that all score alike, one player makes scores NaN, or one choice alone can pass.
 fn any(rng: &mut Rng, scale: Scale) -> Choice {
     let (queue, sizes) = choosable(rng, scale, 9, 1200);
+    choice_among(rng, scale, queue, sizes)
+}
+
+/// Any; or such that all score alike, one player makes scores NaN, or one choice alone can pass.
+pub(super) fn choice_among(
+    rng: &mut Rng,
+    scale: Scale,
+    queue: Queue,
+    sizes: TeamComposition,
+) -> Choice {
     let players: Vec<u64> = queue.waiting().iter().map(|entry| entry.player).collect();
     let rows = rows(rng, scale, &players, Takes::ALL);
     let mut choice = Choice {
@@ -79,7 +88,7 @@ fn alone(kind: u8, weight: f64) -> SoftObjectives {
 }
 
 /// Latency alone is brought, or nothing.
-fn latency(latency: bool) -> Brought {
+pub(super) fn latency(latency: bool) -> Brought {
     Brought {
         sizes: false,
         roles: false,

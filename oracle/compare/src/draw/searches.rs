@@ -149,7 +149,7 @@ pub(super) fn choosable(
 }
 
 /// Few seats or many, with at most `most` ways to take them.
-fn some_seats(rng: &mut Rng, n: usize, most: usize) -> TeamComposition {
+pub(super) fn some_seats(rng: &mut Rng, n: usize, most: usize) -> TeamComposition {
     let all = 0..=2 * TEAM_LIMIT;
     let seats: Vec<usize> = all.filter(|&seats| ways(n, seats) <= most).collect();
     let seats = rng.pick(&seats);
@@ -210,7 +210,7 @@ pub fn beam(rng: &mut Rng, scale: Scale) -> Beam {
     }
 }
 
-fn width(rng: &mut Rng, widest: usize) -> usize {
+pub(super) fn width(rng: &mut Rng, widest: usize) -> usize {
     match rng.below(32) {
         0 => rng.pick(&[WIDTH_LIMIT + 1, QUEUE_LIMIT, LONG[3], usize::MAX]),
         1..=2 => 0,
@@ -220,7 +220,7 @@ fn width(rng: &mut Rng, widest: usize) -> usize {
 }
 
 /// Deviations that no score is NaN by.
-fn settle(columns: &mut Columns) {
+pub(super) fn settle(columns: &mut Columns) {
     let deviations = columns.deviations.iter_mut().flatten();
     let odd = deviations.filter(|deviation| !deviation.is_finite() || deviation.abs() > 1e300);
     odd.for_each(|deviation| *deviation = 100.0);

@@ -196,7 +196,7 @@ mod tests {
         assert_eq!(rust(sized), (None, 3));
     }
 
-    /// The Rust panics just where two or more pass and one of them scores NaN; elsewhere it finds one just where one passes.
+    /// The Rust panics just where two or more pass and one of them scores NaN; elsewhere it finds the model's best.
     #[test]
     fn the_model_weighs_as_the_rust_does() {
         for scale in [Scale::Full, Scale::Stored] {
@@ -206,11 +206,12 @@ mod tests {
                 if [0, 5].contains(&refusal) {
                     let rust = caught(|| BestChoice::rust(&case));
                     assert_eq!(rust.is_none(), refusal == 5, "{case:?}");
-                    let weighed = case.weighed();
-                    if let Some((found, tried)) = rust {
-                        assert_eq!(weighed.len() as u64, tried);
-                        let passes = weighed.iter().any(|(passes, _)| *passes);
-                        assert_eq!(found.is_some(), passes, "{case:?}");
+                    let best = case.best();
+                    assert_eq!(best.is_none(), refusal == 5, "{case:?}");
+                    if let (Some((found, tried)), Some(best)) = (rust, best) {
+                        assert_eq!(case.weighed().len() as u64, tried);
+                        let best = best.map(|best| (seated(&best.a), seated(&best.b)));
+                        assert_eq!(found, best, "{case:?}");
                     }
                 }
             }

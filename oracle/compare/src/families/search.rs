@@ -275,6 +275,33 @@ mod tests {
         assert!(seen.iter().all(|&count| count > 50), "{seen:?}");
     }
 
+    /// Greedy rounds of the hall are compared with the model's search.
+    #[test]
+    fn the_model_picks_as_the_rust_does() {
+        let mut seen = [0; 2];
+        for number in 0..2000 {
+            let case = GreedySearch::draw(&mut Rng::for_case(1, "picked", number), Scale::Full);
+            if GreedySearch::refusal(&case) == 0 {
+                let search = model::Greedy {
+                    waiting: case.queue.waiting(),
+                    sizes: case.sizes,
+                    columns: &case.columns,
+                };
+                let found = search.matches();
+                let seats = found.iter().flat_map(|(a, b)| [&a[..], b].concat());
+                let seats: Vec<u64> = seats.collect();
+                let (count, after) = GreedySearch::rust(&case);
+                assert_eq!(
+                    (count, &after.players[..seats.len()]),
+                    (found.len(), &seats[..]),
+                    "{case:?}"
+                );
+                seen[usize::from(count > 0)] += 1;
+            }
+        }
+        assert!(seen.iter().all(|&count| count > 200), "{seen:?}");
+    }
+
     #[test]
     fn many_cases_form_matches() {
         let mut seen = [0; 65];

@@ -45,13 +45,35 @@ pub fn best_choice(choice: &Choice) -> u8 {
 impl Choice {
     /// Of every choice: does it pass each constraint that is brought, and what does it score?
     pub fn weighed(&self) -> Vec<(bool, f64)> {
-        let choices = choices(self.queue.len, self.sizes.a + self.sizes.b);
-        let teams = choices.iter().map(|places| self.teams(places));
-        let each = teams.map(|teams| {
+        let each = self.listed().into_iter().map(|teams| {
             let score = weighted_sum(&self.objectives, &teams, &self.rows);
             (self.passes(&teams), score)
         });
         each.collect()
+    }
+
+    /// Every choice, in ascending order of its places.
+    pub fn listed(&self) -> Vec<ProposedMatch> {
+        let choices = choices(self.queue.len, self.sizes.a + self.sizes.b);
+        choices.iter().map(|places| self.teams(places)).collect()
+    }
+
+    /// Of the choices that pass, the last of those that score highest, if any passes; none where two or more pass and one is NaN.
+    pub fn best(&self) -> Option<Option<ProposedMatch>> {
+        let weighed = self.listed().into_iter().zip(self.weighed());
+        let passing = weighed.filter(|(_, (passes, _))| *passes);
+        let scored: Vec<(ProposedMatch, f64)> = passing.map(|(m, (_, s))| (m, s)).collect();
+        let scores: Vec<f64> = scored.iter().map(|(_, score)| *score).collect();
+        if unranked(&scores) {
+            return None;
+        }
+        let best = scored
+            .into_iter()
+            .reduce(|best, next| match next.1 < best.1 {
+                true => best,
+                false => next,
+            });
+        Some(best.map(|(teams, _)| teams))
     }
 
     /// The first A places sit in team A, the others in B.

@@ -119,8 +119,13 @@ pub(super) fn large(sizes: &TeamComposition) -> bool {
     sizes.a > TEAM_LIMIT || sizes.b > TEAM_LIMIT
 }
 
-fn short(sheets: &Sheets) -> bool {
+pub(super) fn short(sheets: &Sheets) -> bool {
     sheets.players.len() < SHEET_LEAST || sheets.qualities.len() < SHEET_LEAST
+}
+
+/// Does team A pick next, of teams of these lengths, or B?
+pub(super) fn takes_a(sizes: &TeamComposition, a: usize, b: usize) -> bool {
+    a < sizes.a && (a <= b || b == sizes.b)
 }
 
 /// The search itself, for input within the limits; none where a step ranks two or more and one is NaN.
@@ -165,11 +170,10 @@ impl Beam {
         let (of_a, of_b) = teams;
         let free = |player: &u64| ![used, of_a, of_b].iter().any(|of| of.contains(player));
         let players = self.queue.waiting().iter().map(|entry| entry.player);
-        let takes_a =
-            of_a.len() < self.sizes.a && (of_a.len() <= of_b.len() || of_b.len() == self.sizes.b);
+        let to_a = takes_a(&self.sizes, of_a.len(), of_b.len());
         let seated = |player| {
             let (mut of_a, mut of_b) = teams.clone();
-            if takes_a {
+            if to_a {
                 of_a.push(player);
             } else {
                 of_b.push(player);

@@ -12,8 +12,6 @@ pub struct Chosen {
     pub refusal: u8,
 }
 
-const _: () = assert!(size_of::<Chosen>() == 160);
-
 unsafe extern "C" {
     fn yilgashe_best_choice(
         queue: Queue,

@@ -2,11 +2,13 @@
 
 use crate::{MatchObjective, Queue};
 
-/// The sizes of the two teams.
+/// The sizes of the two teams, each 0 to 8.
 #[repr(C)]
-#[derive(Clone, Copy, Debug)]
+#[derive(Clone, Copy, Debug, PartialEq, Eq)]
 pub struct TeamComposition {
+    /// Of team A.
     pub a: usize,
+    /// Of team B.
     pub b: usize,
 }
 
@@ -31,13 +33,6 @@ pub struct Formed {
     pub count: usize,
     pub refusal: u8,
 }
-
-const _: () = {
-    assert!(size_of::<TeamComposition>() == 16);
-    assert!(size_of::<BeamSearch>() == 8);
-    assert!(size_of::<GreedyNearestGenerator>() == 8);
-    assert!(size_of::<Formed>() == 16);
-};
 
 unsafe extern "C" {
     fn yilgashe_search_greedy(

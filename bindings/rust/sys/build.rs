@@ -7,7 +7,7 @@ use std::process::exit;
 fn main() {
     println!("cargo:rerun-if-env-changed=YILGASHE_LIB");
     let own = PathBuf::from(env::var_os("CARGO_MANIFEST_DIR").expect("set by cargo"))
-        .join("../../target/staticlib");
+        .join("../../../target/staticlib");
     let folder = env::var_os("YILGASHE_LIB").map_or(own, PathBuf::from);
     let library = folder.join("libcapi.a");
     println!("cargo:rerun-if-changed={}", library.display());

@@ -1,26 +1,35 @@
 //! The C interface of libcapi.a: its structs, its functions, and thin safe wrappers over slices.
 //!
-//! A refusal is 0 for none, else the number of document 01.
+//! A refusal is 0 for none, else the number of document 01. `include/yilgashe.h` says what each function does; the crate
+//! `yilgashe` has the same with types that cannot be filled wrongly.
 
 mod choices;
+mod halls;
+mod layout;
 mod rules;
 mod scores;
 mod searches;
 mod show;
 
 pub use choices::*;
+pub use halls::*;
 pub use rules::*;
 pub use scores::*;
 pub use searches::*;
 
-/// One waiting player; party 0 and role 0 mean none.
+/// One waiting player.
 #[repr(C)]
-#[derive(Clone, Copy, Default)]
+#[derive(Clone, Copy, Default, PartialEq)]
 pub struct QueueEntry {
+    /// Any number, 0 too.
     pub player: u64,
+    /// Since when, in nanoseconds.
     pub joined: u64,
+    /// The rating that searches go by.
     pub rating: f64,
+    /// 0 for none.
     pub party: u64,
+    /// 0 for none.
     pub role: u32,
 }
 
@@ -32,6 +41,7 @@ pub struct Queue {
     pub len: usize,
 }
 
+/// The queue afterwards.
 #[repr(C)]
 #[derive(Clone, Copy)]
 pub struct Enqueued {
@@ -49,6 +59,7 @@ pub struct Removed {
     pub refusal: u8,
 }
 
+/// Who stays and who goes, each in the order of the queue.
 #[repr(C)]
 #[derive(Clone, Copy)]
 pub struct Batch {
@@ -90,6 +101,7 @@ pub struct Team {
     pub len: usize,
 }
 
+/// Two teams.
 #[repr(C)]
 #[derive(Clone, Copy)]
 pub struct ProposedMatch {
@@ -99,11 +111,15 @@ pub struct ProposedMatch {
 
 /// The weights of a match's score.
 #[repr(C)]
-#[derive(Clone, Copy, Debug)]
+#[derive(Clone, Copy, Debug, Default, PartialEq)]
 pub struct MatchObjective {
+    /// Of the match's quality.
     pub quality: f64,
+    /// Of the longest wait, in minutes, which is taken off.
     pub wait: f64,
+    /// Of the ping, which is 0.0.
     pub ping: f64,
+    /// Of the average rating deviation / 350.0, which is taken off.
     pub uncertainty: f64,
 }
 
@@ -124,36 +140,26 @@ pub struct SoftObjectives {
     pub len: usize,
 }
 
+/// What a match is worth by each of six measures.
 #[repr(C)]
-#[derive(Clone, Copy, Debug)]
+#[derive(Clone, Copy, Debug, PartialEq)]
 pub struct MatchObjectiveVector {
+    /// More is better.
     pub skill: f64,
+    /// More is better.
     pub role: f64,
+    /// More is better.
     pub latency: f64,
+    /// More is better.
     pub party: f64,
+    /// Less is better.
     pub wait: f64,
+    /// More is better.
     pub utilization: f64,
 }
 
 /// A weight for each coordinate.
 pub type ObjectiveWeights = MatchObjectiveVector;
-
-const _: () = {
-    assert!(size_of::<QueueEntry>() == 40);
-    assert!(size_of::<Queue>() == 2568);
-    assert!(size_of::<Enqueued>() == 2576);
-    assert!(size_of::<Removed>() == 2616);
-    assert!(size_of::<Batch>() == 5144);
-    assert!(size_of::<Wait>() == 16);
-    assert!(size_of::<Duration>() == 16);
-    assert!(size_of::<Seconds>() == 16);
-    assert!(size_of::<Team>() == 72);
-    assert!(size_of::<ProposedMatch>() == 144);
-    assert!(size_of::<MatchObjective>() == 32);
-    assert!(size_of::<Scored>() == 16);
-    assert!(size_of::<SoftObjectives>() == 80);
-    assert!(size_of::<MatchObjectiveVector>() == 48);
-};
 
 impl Queue {
     /// Holds `entries`, with `len` saying so; at most 64.
@@ -217,8 +223,8 @@ unsafe extern "C" {
     safe fn yilgashe_queue_empty() -> Queue;
     safe fn yilgashe_queue_enqueue(queue: Queue, entry: QueueEntry) -> Enqueued;
     safe fn yilgashe_queue_remove(queue: Queue, player: u64) -> Removed;
-    fn yilgashe_queue_remove_batch(queue: Queue, ids: *const u64, ids_len: usize) -> Batch;
-    safe fn yilgashe_queue_waiting_time(queue: Queue, player: u64, now: u64) -> Wait;
+    fn yilgashe_queue_remove_batch(queue: Queue, players: *const u64, players_len: usize) -> Batch;
+    safe fn yilgashe_queue_waiting_time(queue: Queue, player: u64, clock: u64) -> Wait;
     safe fn yilgashe_time_duration_since(later: u64, earlier: u64) -> Duration;
     safe fn yilgashe_time_as_secs_f64(nanos: u64) -> Seconds;
     fn yilgashe_roster_check(
@@ -249,13 +255,13 @@ pub fn queue_remove(queue: Queue, player: u64) -> Removed {
     yilgashe_queue_remove(queue, player)
 }
 
-pub fn queue_remove_batch(queue: Queue, ids: &[u64]) -> Batch {
+pub fn queue_remove_batch(queue: Queue, players: &[u64]) -> Batch {
     // SAFETY: pointer and length come from one slice, which the call only reads.
-    unsafe { yilgashe_queue_remove_batch(queue, ids.as_ptr(), ids.len()) }
+    unsafe { yilgashe_queue_remove_batch(queue, players.as_ptr(), players.len()) }
 }
 
-pub fn queue_waiting_time(queue: Queue, player: u64, now: u64) -> Wait {
-    yilgashe_queue_waiting_time(queue, player, now)
+pub fn queue_waiting_time(queue: Queue, player: u64, clock: u64) -> Wait {
+    yilgashe_queue_waiting_time(queue, player, clock)
 }
 
 pub fn time_duration_since(later: u64, earlier: u64) -> Duration {

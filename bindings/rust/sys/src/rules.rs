@@ -98,20 +98,6 @@ pub struct Selected {
     pub refusal: u8,
 }
 
-const _: () = {
-    assert!(size_of::<RoleRequirement>() == 32);
-    assert!(size_of::<RoleRequirements>() == 264);
-    assert!(size_of::<RegionPair>() == 2);
-    assert!(size_of::<RegionConstraint>() == 40);
-    assert!(size_of::<TeamSizeConstraint>() == 16);
-    assert!(size_of::<Brought>() == 5);
-    assert!(size_of::<Constraints>() == 328);
-    assert!(size_of::<Verdict>() == 2);
-    assert!(size_of::<Validity>() == 16);
-    assert!(size_of::<Candidates>() == 9224);
-    assert!(size_of::<Selected>() == 528);
-};
-
 impl RoleRequirements {
     /// Those that are listed; all 8 where `len` is over 8.
     pub fn listed(&self) -> &[RoleRequirement] {

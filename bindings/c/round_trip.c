@@ -1,0 +1,662 @@
+/*
+ * Every field of every struct through the library: each is filled with a value of its own, sent through a call that hands it back or
+ * answers by it, and compared. A field at another place or of another width shows.
+ */
+#include "yilgashe.h"
+
+#include <math.h>
+#include <stdio.h>
+#include <stdlib.h>
+#include <string.h>
+
+static unsigned passed;
+
+#define CHECK(fact) check((fact), __LINE__, #fact)
+
+static void check(bool fact, int line, const char *text)
+{
+    if (!fact) {
+        printf("round_trip.c:%d: not so: %s\n", line, text);
+        exit(1);
+    }
+    passed++;
+}
+
+/* Empty columns, and structs of zeros: C++ has no {0} for them. */
+static uint64_t none_ids[1];
+static double none_ratings[1];
+static yilgashe_queue_entry blank;
+static yilgashe_role_requirements no_requirements;
+static yilgashe_constraints no_rules;
+
+/* Numbers whose bytes all differ, one for each n. */
+static uint64_t wide(uint64_t n)
+{
+    return UINT64_C(0x0123456789abcd00) + n;
+}
+
+static yilgashe_queue_entry entry(uint64_t n)
+{
+    yilgashe_queue_entry e = blank;
+    e.player = wide(n);
+    e.joined = UINT64_C(0x0010203040506000) + n;
+    e.rating = 1000.5 + (double)n;
+    e.party = ~wide(n);
+    e.role = (uint32_t)(0x89abcd00u + n);
+    return e;
+}
+
+static bool same_entry(yilgashe_queue_entry x, yilgashe_queue_entry y)
+{
+    return x.player == y.player && x.joined == y.joined && x.rating == y.rating && x.party == y.party && x.role == y.role;
+}
+
+/* 64 entries, by 64 calls. */
+static yilgashe_queue full_queue(void)
+{
+    yilgashe_queue queue = yilgashe_queue_empty();
+    uint64_t n;
+    CHECK(queue.len == 0);
+    for (n = 0; n < 64; n++) {
+        yilgashe_enqueued after = yilgashe_queue_enqueue(queue, entry(n));
+        CHECK(after.refusal == YILGASHE_ACCEPTED && after.queue.len == n + 1);
+        queue = after.queue;
+    }
+    return queue;
+}
+
+static void queues(void)
+{
+    yilgashe_queue queue = full_queue();
+    yilgashe_enqueued more = yilgashe_queue_enqueue(queue, entry(64));
+    uint64_t n;
+    CHECK(more.refusal == YILGASHE_OVER_LIMIT && more.queue.len == 64);
+    for (n = 0; n < 64; n++) {
+        CHECK(same_entry(more.queue.entries[n], entry(n)));
+    }
+    for (n = 0; n < 64; n++) {
+        yilgashe_removed taken = yilgashe_queue_remove(queue, wide(n));
+        CHECK(taken.refusal == YILGASHE_ACCEPTED && taken.found && same_entry(taken.entry, entry(n)));
+        queue = taken.queue;
+        CHECK(queue.len == 63 - n && (n == 63 || same_entry(queue.entries[0], entry(n + 1))));
+    }
+    CHECK(!yilgashe_queue_remove(queue, wide(0)).found);
+    queue.len = 65;
+    CHECK(yilgashe_queue_remove(queue, wide(0)).refusal == YILGASHE_OVER_LIMIT);
+}
+
+static void batches(void)
+{
+    const uint64_t odd[2] = {wide(63), wide(1)};
+    yilgashe_queue queue = full_queue();
+    yilgashe_batch parted = yilgashe_queue_remove_batch(queue, odd, 2);
+    CHECK(parted.refusal == YILGASHE_ACCEPTED && parted.kept.len == 62 && parted.removed.len == 2);
+    CHECK(same_entry(parted.kept.entries[0], entry(0)) && same_entry(parted.kept.entries[61], entry(62)));
+    CHECK(same_entry(parted.removed.entries[0], entry(1)) && same_entry(parted.removed.entries[1], entry(63)));
+    queue.entries[63].joined = YILGASHE_MAX_TIME + 1;
+    CHECK(yilgashe_queue_remove_batch(queue, odd, 0).refusal == YILGASHE_CLOCK);
+}
+
+static void times(void)
+{
+    yilgashe_queue queue = full_queue();
+    yilgashe_wait waited = yilgashe_queue_waiting_time(queue, wide(5), entry(5).joined + wide(0) / 1024);
+    yilgashe_duration gone = yilgashe_time_duration_since(YILGASHE_MAX_TIME, 1);
+    yilgashe_seconds told = yilgashe_time_as_secs_f64(UINT64_C(1500000000));
+    CHECK(waited.nanos == wide(0) / 1024 && waited.found && waited.refusal == YILGASHE_ACCEPTED);
+    waited = yilgashe_queue_waiting_time(queue, 1, 0);
+    CHECK(waited.nanos == 0 && !waited.found && waited.refusal == YILGASHE_ACCEPTED);
+    CHECK(yilgashe_queue_waiting_time(queue, 1, YILGASHE_MAX_TIME + 1).refusal == YILGASHE_CLOCK);
+    CHECK(gone.nanos == YILGASHE_MAX_TIME - 1 && gone.refusal == YILGASHE_ACCEPTED);
+    CHECK(yilgashe_time_duration_since(YILGASHE_MAX_TIME + 1, 0).refusal == YILGASHE_CLOCK);
+    CHECK(told.seconds == 1.5 && told.refusal == YILGASHE_ACCEPTED);
+    CHECK(yilgashe_time_as_secs_f64(YILGASHE_MAX_TIME + 1).refusal == YILGASHE_CLOCK);
+}
+
+/* Each column must be as long as the first, and a region code at most 4. */
+static void rosters(void)
+{
+    const uint64_t ids[2] = {1, 2}, parties[2] = {0, 0};
+    const double ratings[2] = {1.0, 2.0}, deviations[2] = {3.0, 4.0};
+    const uint32_t roles[2] = {0, 0};
+    const uint8_t regions[2] = {YILGASHE_NO_RECORD, 5};
+    unsigned column;
+    for (column = 0; column < 6; column++) {
+        size_t len[6] = {1, 1, 1, 1, 1, 1};
+        CHECK(yilgashe_roster_check(ids, len[0], ratings, len[1], deviations, len[2], parties, len[3], roles, len[4], regions,
+                                    len[5]) == YILGASHE_ACCEPTED);
+        len[column] = 2;
+        CHECK(yilgashe_roster_check(ids, len[0], ratings, len[1], deviations, len[2], parties, len[3], roles, len[4], regions,
+                                    len[5]) == YILGASHE_BAD_ROSTER);
+    }
+    CHECK(yilgashe_roster_check(ids, 2, ratings, 2, deviations, 2, parties, 2, roles, 2, regions, 2) == YILGASHE_BAD_ROSTER);
+}
+
+/* Teams of 8 guests, all different: a's are wide(0) to wide(7), b's wide(8) to wide(15). */
+static yilgashe_proposed_match full_match(void)
+{
+    yilgashe_proposed_match m = {{{0}, 8}, {{0}, 8}};
+    uint64_t n;
+    for (n = 0; n < 8; n++) {
+        m.a.players[n] = wide(n);
+        m.b.players[n] = wide(8 + n);
+    }
+    return m;
+}
+
+/* Guest x against guest y. */
+static yilgashe_proposed_match pair(uint64_t x, uint64_t y)
+{
+    yilgashe_proposed_match m = {{{0}, 1}, {{0}, 1}};
+    m.a.players[0] = x;
+    m.b.players[0] = y;
+    return m;
+}
+
+/* With one guest rostered, the quality says at which of the 16 seats the guest sits, or that it is none. */
+static void matches(void)
+{
+    yilgashe_proposed_match m = full_match();
+    uint64_t n;
+    for (n = 0; n < 16; n++) {
+        const uint64_t id = wide(n);
+        const double rating = 160.0 * (double)(n + 1);
+        yilgashe_scored seated = yilgashe_match_quality(m, &id, 1, &rating, 1);
+        CHECK(seated.refusal == YILGASHE_ACCEPTED && seated.value == 1.0 - 20.0 * (double)(n + 1) / 400.0);
+        m = full_match();
+        (n < 8 ? &m.a : &m.b)->players[n % 8] = 0;
+        CHECK(yilgashe_match_quality(m, &id, 1, &rating, 1).value == 1.0);
+        m = full_match();
+    }
+    m.b.len = 9;
+    CHECK(yilgashe_match_quality(m, none_ids, 0, none_ratings, 0).refusal == YILGASHE_OVER_LIMIT);
+    m.b.len = 8;
+    m.a.len = 9;
+    CHECK(yilgashe_match_quality(m, none_ids, 0, none_ratings, 0).refusal == YILGASHE_OVER_LIMIT);
+}
+
+/* By the fields' names, so that their order shows. */
+static yilgashe_match_objective objective(double quality, double wait, double ping, double uncertainty)
+{
+    yilgashe_match_objective o;
+    o.quality = quality;
+    o.wait = wait;
+    o.ping = ping;
+    o.uncertainty = uncertainty;
+    return o;
+}
+
+static yilgashe_team_composition teams_of(size_t a, size_t b)
+{
+    yilgashe_team_composition sizes;
+    sizes.a = a;
+    sizes.b = b;
+    return sizes;
+}
+
+/* Quality 0.75, a wait of 2 minutes and an average deviation of 175 / 350. The ping is 0.0: only an infinite weight shows. */
+static void scores(void)
+{
+    const uint64_t ids[2] = {1, 2};
+    const double ratings[2] = {1000.0, 1100.0}, deviations[2] = {100.0, 250.0};
+    const uint64_t clock = UINT64_C(120000000000);
+    yilgashe_match_objective weights = objective(1000.0, 10.0, 1.0, 4.0);
+    yilgashe_queue queue = yilgashe_queue_empty();
+    yilgashe_queue_entry first = {1, 0, 0.0, 0, 0};
+    yilgashe_scored score;
+    queue = yilgashe_queue_enqueue(queue, first).queue;
+    score = yilgashe_match_score(weights, pair(1, 2), queue, ids, 2, ratings, 2, deviations, 2, clock);
+    CHECK(score.refusal == YILGASHE_ACCEPTED && score.value == 1000.0 * 0.75 - 10.0 * 2.0 - 4.0 * 0.5);
+    weights.ping = HUGE_VAL;
+    CHECK(isnan(yilgashe_match_score(weights, pair(1, 2), queue, ids, 2, ratings, 2, deviations, 2, clock).value));
+    CHECK(yilgashe_match_score(weights, pair(1, 2), queue, ids, 2, ratings, 2, deviations, 1, clock).refusal == YILGASHE_BAD_ROSTER);
+}
+
+/* At each of the 8 places, each kind with a weight of its own. */
+static void soft_objectives(void)
+{
+    const uint64_t ids[2] = {1, 2};
+    const double ratings[2] = {100.0, 60.0};
+    const double values[3] = {1.0 - 40.0 / 400.0, 1.0 - 80.0 / 200.0, 0.5};
+    size_t n;
+    for (n = 0; n < 8; n++) {
+        uint8_t kind;
+        for (kind = 0; kind < 3; kind++) {
+            yilgashe_soft_objectives wishes = {{0}, {0.0}, 8};
+            yilgashe_scored score;
+            wishes.kinds[n] = kind;
+            wishes.weights[n] = 3.0 + (double)n;
+            score = yilgashe_soft_score(wishes, pair(1, 2), ids, 2, ratings, 2);
+            CHECK(score.refusal == YILGASHE_ACCEPTED && score.value == (3.0 + (double)n) * values[kind]);
+            wishes.len = n;
+            CHECK(yilgashe_soft_score(wishes, pair(1, 2), ids, 2, ratings, 2).value == 0.0);
+            CHECK(yilgashe_soft_value(kind, 7.0, pair(1, 2), ids, 2, ratings, 2).value == values[kind]);
+        }
+    }
+    CHECK(yilgashe_soft_value(3, 1.0, pair(1, 2), ids, 2, ratings, 2).refusal == YILGASHE_OVER_LIMIT);
+}
+
+static double *coordinate(yilgashe_match_objective_vector *v, unsigned n)
+{
+    double *all[6] = {&v->skill, &v->role, &v->latency, &v->party, &v->wait, &v->utilization};
+    return all[n];
+}
+
+static void vectors(void)
+{
+    const yilgashe_objective_weights weights = {2.0, 3.0, 5.0, 7.0, 11.0, 13.0};
+    const double signs[6] = {2.0, 3.0, 5.0, 7.0, -11.0, 13.0};
+    const yilgashe_objective_weights usual = yilgashe_weights_default();
+    const yilgashe_match_objective_vector zeros = yilgashe_vector_default();
+    unsigned n;
+    for (n = 0; n < 6; n++) {
+        yilgashe_match_objective_vector v = zeros;
+        CHECK(*coordinate(&v, n) == 0.0);
+        *coordinate(&v, n) = 1.5;
+        CHECK(yilgashe_vector_scalarize(v, weights) == 1.5 * signs[n]);
+        CHECK(yilgashe_vector_dominates(v, zeros) == (n != 4) && yilgashe_vector_dominates(zeros, v) == (n == 4));
+    }
+    CHECK(usual.skill == 1.0 && usual.role == 0.5 && usual.latency == 0.3 && usual.party == 0.2);
+    CHECK(usual.wait == 0.8 && usual.utilization == 0.0);
+}
+
+/* At each of the 8 places, a requirement of its own that fails by its minimum, then by its maximum. */
+static void requirements(void)
+{
+    const uint64_t ids[3] = {1, 2, 3};
+    const uint32_t roles[3] = {0x89abcdefu, 0x89abcdefu, 7};
+    const yilgashe_team team = {{1, 2, 3}, 3};
+    size_t n;
+    for (n = 0; n < 8; n++) {
+        yilgashe_role_requirements asked = no_requirements;
+        yilgashe_role_requirement *item = &asked.items[n];
+        yilgashe_validity told;
+        asked.len = n + 1;
+        item->role = 0x89abcdefu;
+        item->least = 3;
+        told = yilgashe_team_validate(3, asked, team, ids, 3, roles, 3);
+        CHECK(told.refusal == YILGASHE_ACCEPTED && told.fault == YILGASHE_TOO_FEW && told.place == n);
+        item->least = 2;
+        item->most = 1;
+        CHECK(yilgashe_team_validate(3, asked, team, ids, 3, roles, 3).fault == YILGASHE_VALID);
+        CHECK(yilgashe_roles_satisfied(asked, pair(1, 2), ids, 3, roles, 3).satisfied);
+        item->bounded = true;
+        told = yilgashe_team_validate(3, asked, team, ids, 3, roles, 3);
+        CHECK(told.fault == YILGASHE_TOO_MANY && told.place == n);
+        CHECK(!yilgashe_roles_satisfied(asked, pair(1, 2), ids, 3, roles, 3).satisfied);
+        CHECK(yilgashe_team_validate(2, asked, team, ids, 3, roles, 3).fault == YILGASHE_WRONG_SIZE);
+        asked.len = 9;
+        CHECK(yilgashe_team_validate(3, asked, team, ids, 3, roles, 3).refusal == YILGASHE_OVER_LIMIT);
+        CHECK(yilgashe_roles_satisfied(asked, pair(1, 2), ids, 3, roles, 3).refusal == YILGASHE_OVER_LIMIT);
+    }
+}
+
+/* Region 1 meets region 2 only by the pair at one of the 16 places, which no shorter list has. */
+static void region_pairs(void)
+{
+    const uint64_t ids[2] = {1, 2};
+    const uint8_t regions[2] = {YILGASHE_EU, YILGASHE_ASIA};
+    size_t n;
+    for (n = 0; n < 16; n++) {
+        yilgashe_region_constraint allowed = {{{0, 0}}, 16};
+        yilgashe_verdict told;
+        allowed.pairs[n].first = YILGASHE_ASIA;
+        CHECK(!yilgashe_regions_satisfied(allowed, pair(1, 2), ids, 2, regions, 2).satisfied);
+        allowed.pairs[n].second = YILGASHE_EU;
+        told = yilgashe_regions_satisfied(allowed, pair(1, 2), ids, 2, regions, 2);
+        CHECK(told.satisfied && told.refusal == YILGASHE_ACCEPTED);
+        allowed.count = n;
+        CHECK(!yilgashe_regions_satisfied(allowed, pair(1, 2), ids, 2, regions, 2).satisfied);
+        allowed.pairs[0].second = 5;
+        allowed.count = 1;
+        CHECK(yilgashe_regions_satisfied(allowed, pair(1, 2), ids, 2, regions, 2).refusal == YILGASHE_BAD_ROSTER);
+    }
+}
+
+/* Constraint n is brought alone and violated, and no other would be; at last all are brought and met. */
+static void constraints(void)
+{
+    const uint64_t ids[3] = {1, 2, 3};
+    const uint32_t roles[3] = {0, 0, 0};
+    const uint8_t regions[3] = {YILGASHE_EU, YILGASHE_ASIA, YILGASHE_EU};
+    const yilgashe_soft_objectives wishes = {{YILGASHE_WAIT}, {6.0}, 1};
+    unsigned n, k;
+    for (n = 0; n < 6; n++) {
+        const uint64_t parties[3] = {9, 0, n == 2 ? 9u : 8u};
+        const double ratings[3] = {n == 3 ? -1.0 : 1.0, 1.0, 1.0};
+        yilgashe_constraints rules = no_rules;
+        bool *brought[5];
+        yilgashe_verdict told;
+        yilgashe_scored score;
+        brought[0] = &rules.brought.sizes;
+        brought[1] = &rules.brought.roles;
+        brought[2] = &rules.brought.parties;
+        brought[3] = &rules.brought.latency;
+        brought[4] = &rules.brought.regions;
+        rules.sizes.a = 1;
+        rules.sizes.b = n == 0 ? 2 : 1;
+        rules.roles.items[0].role = 5;
+        rules.roles.items[0].least = n == 1 ? 1 : 0;
+        rules.roles.len = 1;
+        rules.regions.pairs[0].first = YILGASHE_EU;
+        rules.regions.pairs[0].second = n == 4 ? YILGASHE_EU : YILGASHE_ASIA;
+        rules.regions.count = 1;
+        for (k = 0; k < 5; k++) {
+            *brought[k] = n == k || n == 5;
+        }
+        told = yilgashe_constraints_satisfied(rules, pair(1, 2), ids, 3, ratings, 3, parties, 3, roles, 3, regions, 3);
+        score = yilgashe_policy_score(rules, wishes, pair(1, 2), ids, 3, ratings, 3, parties, 3, roles, 3, regions, 3);
+        CHECK(told.refusal == YILGASHE_ACCEPTED && told.satisfied == (n == 5));
+        CHECK(score.refusal == YILGASHE_ACCEPTED && score.value == (n == 5 ? 3.0 : -HUGE_VAL));
+    }
+}
+
+/* The five constraints by themselves, where they take other arguments. */
+static void single_constraints(void)
+{
+    const uint64_t ids[3] = {1, 2, 3}, parties[3] = {9, 0, 9};
+    const double ratings[2] = {-1.0, 1.0};
+    yilgashe_proposed_match m = full_match();
+    yilgashe_team_size_constraint sizes = {3, 5};
+    m.a.len = 3;
+    m.b.len = 5;
+    CHECK(yilgashe_sizes_satisfied(sizes, m).satisfied);
+    sizes.a = 5;
+    sizes.b = 3;
+    CHECK(!yilgashe_sizes_satisfied(sizes, m).satisfied);
+    m.a.len = 9;
+    CHECK(yilgashe_sizes_satisfied(sizes, m).refusal == YILGASHE_OVER_LIMIT);
+    CHECK(yilgashe_parties_satisfied(pair(1, 3), ids, 3, parties, 3).satisfied);
+    CHECK(!yilgashe_parties_satisfied(pair(1, 2), ids, 3, parties, 3).satisfied);
+    CHECK(yilgashe_latency_satisfied(pair(2, 2), ids, 2, ratings, 2).satisfied);
+    CHECK(!yilgashe_latency_satisfied(pair(1, 2), ids, 2, ratings, 2).satisfied);
+}
+
+/* 64 candidates of different quality: their order names every place. */
+static void selections(void)
+{
+    static yilgashe_candidates all;
+    uint64_t ids[65];
+    double ratings[65];
+    const yilgashe_soft_objectives skill = {{YILGASHE_SKILL}, {1.0}, 1};
+    yilgashe_objective_weights weights = {0.0, 0.0, 0.0, 0.0, 0.0, 0.0};
+    yilgashe_selected told;
+    size_t n;
+    all.len = 64;
+    ids[64] = wide(64);
+    ratings[64] = 1000.0;
+    for (n = 0; n < 64; n++) {
+        ids[n] = wide(n);
+        ratings[n] = 1000.0 + (double)(n * 37 % 64);
+        all.items[n] = pair(wide(n), wide(64));
+    }
+    weights.skill = 1.0;
+    told = yilgashe_select_weighted(weights, all, ids, 65, ratings, 65);
+    CHECK(told.refusal == YILGASHE_ACCEPTED && told.len == 64);
+    for (n = 0; n < 64; n++) {
+        CHECK(told.places[n] < 64 && told.places[n] * 37 % 64 == n);
+    }
+    told = yilgashe_select_greedy(skill, all, ids, 65, ratings, 65);
+    CHECK(told.len == 1 && told.places[0] == 0);
+    told = yilgashe_select_threshold(0.9975, skill, all, ids, 65, ratings, 65);
+    CHECK(told.len == 1 && told.places[0] == 0);
+    told = yilgashe_select_lexicographic(skill, all, ids, 65, ratings, 65);
+    CHECK(told.len == 1 && told.places[0] == 0);
+    all.len = 65;
+    CHECK(yilgashe_select_greedy(skill, all, ids, 65, ratings, 65).refusal == YILGASHE_OVER_LIMIT);
+}
+
+enum { SHEET = 64 };
+static uint64_t players[SHEET + 1];
+static double qualities[SHEET + 1];
+
+/* Sheets whose untouched places can be told. */
+static void fresh_sheets(void)
+{
+    size_t n;
+    for (n = 0; n <= SHEET; n++) {
+        players[n] = ~(uint64_t)0;
+        qualities[n] = -1.0;
+    }
+}
+
+/* Four guests wait with ratings 1000, 1280, 1010, 1090. */
+static yilgashe_queue four(void)
+{
+    const double ratings[4] = {1000.0, 1280.0, 1010.0, 1090.0};
+    yilgashe_queue queue = yilgashe_queue_empty();
+    uint64_t n;
+    for (n = 0; n < 4; n++) {
+        yilgashe_queue_entry e = {n + 1, 0, ratings[n], 0, 0};
+        queue = yilgashe_queue_enqueue(queue, e).queue;
+    }
+    return queue;
+}
+
+static const uint64_t ids4[4] = {1, 2, 3, 4}, parties4[4] = {0};
+static const double ratings4[4] = {1000.0, 1280.0, 1010.0, 1090.0}, deviations4[4] = {0.0};
+static const uint32_t roles4[4] = {0};
+static const uint8_t regions4[4] = {0};
+
+static bool seated(uint64_t a, uint64_t b, uint64_t c, uint64_t end)
+{
+    return players[0] == a && players[1] == b && players[2] == c && players[3] == end;
+}
+
+/* Teams of 2 and 1 are not teams of 1 and 2; the place behind the sheet is never touched. */
+static void searches(void)
+{
+    const yilgashe_team_composition two_one = teams_of(2, 1), one_two = teams_of(1, 2);
+    const yilgashe_match_objective quality = objective(1.0, 0.0, 0.0, 0.0);
+    const yilgashe_greedy_nearest_generator one = {1};
+    yilgashe_beam_search beam = {32};
+    yilgashe_formed told;
+    fresh_sheets();
+    told = yilgashe_search_greedy(four(), two_one, ids4, 4, ratings4, 4, players, SHEET, qualities, SHEET);
+    CHECK(told.refusal == YILGASHE_ACCEPTED && told.count == 1 && seated(1, 4, 3, ~(uint64_t)0) && qualities[1] == -1.0);
+    CHECK(yilgashe_search_greedy(four(), two_one, ids4, 4, ratings4, 4, players, SHEET - 1, qualities, SHEET).refusal ==
+          YILGASHE_SHORT_SHEET);
+    CHECK(yilgashe_search_greedy(four(), two_one, ids4, 4, ratings4, 4, players, SHEET, qualities, SHEET - 1).refusal ==
+          YILGASHE_SHORT_SHEET);
+    fresh_sheets();
+    told = yilgashe_search_greedy(four(), one_two, ids4, 4, ratings4, 4, players, SHEET, qualities, SHEET);
+    CHECK(told.count == 1 && seated(1, 3, 4, ~(uint64_t)0) && qualities[0] == 1.0 - 50.0 / 400.0);
+    fresh_sheets();
+    told = yilgashe_search_beam(beam, four(), one_two, quality, ids4, 4, ratings4, 4, deviations4, 4, 0, players, SHEET, qualities,
+                                SHEET);
+    CHECK(told.refusal == YILGASHE_ACCEPTED && told.count == 1 && seated(1, 3, 4, ~(uint64_t)0));
+    beam.width = 33;
+    told = yilgashe_search_beam(beam, four(), one_two, quality, ids4, 4, ratings4, 4, deviations4, 4, 0, players, SHEET, qualities,
+                                SHEET);
+    CHECK(told.refusal == YILGASHE_OVER_LIMIT && told.count == 0);
+    fresh_sheets();
+    told = yilgashe_generate_nearest(one, four(), one_two, ids4, 4, ratings4, 4, players, SHEET, qualities, SHEET);
+    CHECK(told.refusal == YILGASHE_ACCEPTED && told.count == 1 && seated(1, 3, 4, ~(uint64_t)0) && qualities[0] == 0.0);
+    fresh_sheets();
+    told = yilgashe_generate_exhaustive(four(), two_one, players, 12, qualities, 4);
+    CHECK(told.refusal == YILGASHE_ACCEPTED && told.count == 4 && seated(1, 2, 3, 1) && players[11] == 4);
+    CHECK(players[12] == ~(uint64_t)0 && qualities[3] == 0.0 && qualities[4] == -1.0);
+}
+
+/* 16 guests for two teams of 8: one choice, which names every seat of the answer. */
+static void choices(void)
+{
+    const yilgashe_team_composition eights = teams_of(8, 8), pairs = teams_of(1, 1);
+    const yilgashe_soft_objectives wishes = {{YILGASHE_WAIT}, {1.0}, 1};
+    yilgashe_constraints rules = no_rules;
+    yilgashe_queue queue = yilgashe_queue_empty();
+    yilgashe_chosen told;
+    uint64_t n;
+    for (n = 0; n < 16; n++) {
+        queue = yilgashe_queue_enqueue(queue, entry(n)).queue;
+    }
+    told = yilgashe_best_choice(queue, eights, rules, wishes, ids4, 4, ratings4, 4, parties4, 4, roles4, 4, regions4, 4);
+    CHECK(told.refusal == YILGASHE_ACCEPTED && told.found && told.tried == 1 && told.teams.a.len == 8 && told.teams.b.len == 8);
+    for (n = 0; n < 8; n++) {
+        CHECK(told.teams.a.players[n] == wide(n) && told.teams.b.players[n] == wide(8 + n));
+    }
+    rules.brought.sizes = true;
+    told = yilgashe_best_choice(queue, pairs, rules, wishes, ids4, 4, ratings4, 4, parties4, 4, roles4, 4, regions4, 4);
+    CHECK(told.refusal == YILGASHE_ACCEPTED && !told.found && told.tried == 120);
+    told = yilgashe_best_choice(full_queue(), pairs, rules, wishes, ids4, 4, ratings4, 4, parties4, 4, roles4, 4, regions4, 4);
+    CHECK(told.refusal == YILGASHE_TOO_WIDE && !told.found && told.tried == 0);
+}
+
+static yilgashe_booking booking(uint64_t n)
+{
+    yilgashe_queue_entry e = entry(n);
+    yilgashe_booking b;
+    b.player = e.player;
+    b.joined = e.joined;
+    b.rating = e.rating;
+    b.party = e.party;
+    b.role = e.role;
+    return b;
+}
+
+static bool noted(const yilgashe_key_record *r, uint64_t key, uint64_t player, uint8_t kind, uint8_t answer)
+{
+    return r->key == key && r->player == player && r->kind == kind && r->answer == answer;
+}
+
+/* Each booking makes its entry and its record; the 65th meets a full hall, and a resend the noted answer. */
+static void bookings(void)
+{
+    static yilgashe_keyed told;
+    uint64_t n;
+    told.hall = yilgashe_hall_empty();
+    CHECK(told.hall.waiting.len == 0 && told.hall.log.len == 0);
+    for (n = 0; n < 65; n++) {
+        told = yilgashe_hall_book(told.hall, ~wide(n), booking(n));
+        CHECK(told.refusal == (n == 64 ? YILGASHE_HALL_FULL : YILGASHE_ACCEPTED));
+        CHECK(told.hall.log.len == n + 1 && noted(&told.hall.log.records[n], ~wide(n), wide(n), YILGASHE_BOOKING, told.refusal));
+    }
+    told = yilgashe_hall_book(told.hall, ~wide(64), booking(64));
+    CHECK(told.refusal == YILGASHE_HALL_FULL && told.hall.log.len == 65 && told.hall.waiting.len == 64);
+    for (n = 0; n < 64; n++) {
+        CHECK(same_entry(told.hall.waiting.entries[n], entry(n)));
+    }
+    told = yilgashe_hall_withdraw(told.hall, 5, wide(0));
+    CHECK(told.refusal == YILGASHE_ACCEPTED && told.hall.waiting.len == 63);
+    CHECK(same_entry(told.hall.waiting.entries[62], entry(63)));
+    CHECK(noted(&told.hall.log.records[65], 5, wide(0), YILGASHE_WITHDRAWAL, YILGASHE_ACCEPTED));
+    told = yilgashe_hall_withdraw(told.hall, 6, wide(0));
+    CHECK(told.refusal == YILGASHE_NOT_WAITING);
+    CHECK(noted(&told.hall.log.records[66], 6, wide(0), YILGASHE_WITHDRAWAL, YILGASHE_NOT_WAITING));
+}
+
+/* A log of 1,024 records, every field of them of its own, comes back from a call that it refuses, and answers by any of them. */
+static void key_logs(void)
+{
+    static yilgashe_hall hall;
+    static yilgashe_keyed told;
+    const uint8_t answers[8] = {YILGASHE_ACCEPTED, YILGASHE_CLOCK,       YILGASHE_ALREADY_WAITING, YILGASHE_HALL_FULL,
+                                YILGASHE_ACCEPTED, YILGASHE_NOT_WAITING, YILGASHE_ACCEPTED,        YILGASHE_NOT_WAITING};
+    uint64_t n;
+    for (n = 0; n < 1024; n++) {
+        yilgashe_key_record *r = &hall.log.records[n];
+        r->key = UINT64_C(0x1122334455660000) + n;
+        r->player = UINT64_C(0x99aabbccddee0000) + n;
+        r->kind = (uint8_t)(n / 4 % 2);
+        r->answer = answers[n % 8];
+    }
+    hall.log.len = 1024;
+    hall.waiting = full_queue();
+    told = yilgashe_hall_book(hall, 1, booking(0));
+    CHECK(told.refusal == YILGASHE_BOOK_FULL && told.hall.log.len == 1024 && told.hall.waiting.len == 64);
+    for (n = 0; n < 1024; n++) {
+        const yilgashe_key_record *r = &hall.log.records[n];
+        CHECK(noted(&told.hall.log.records[n], r->key, r->player, r->kind, r->answer));
+        CHECK(n >= 64 || same_entry(told.hall.waiting.entries[n], entry(n)));
+    }
+    for (n = 0; n < 1024; n += 31) {
+        const yilgashe_key_record *r = &hall.log.records[n];
+        yilgashe_booking again = booking(0);
+        again.player = r->player;
+        told = r->kind == YILGASHE_BOOKING ? yilgashe_hall_book(hall, r->key, again) : yilgashe_hall_withdraw(hall, r->key, r->player);
+        CHECK(told.refusal == r->answer && told.hall.log.len == 1024);
+        told = r->kind == YILGASHE_BOOKING ? yilgashe_hall_withdraw(hall, r->key, r->player) : yilgashe_hall_book(hall, r->key, again);
+        CHECK(told.refusal == YILGASHE_KEY_CLASH);
+    }
+    hall.log.len = 1025;
+    CHECK(yilgashe_hall_withdraw(hall, 1, 1).refusal == YILGASHE_OVER_LIMIT);
+}
+
+/* Each round hands back the hall without the seated, the number of matches, and the number of choices. */
+static void rounds(void)
+{
+    static yilgashe_hall hall;
+    static yilgashe_rounded told;
+    const yilgashe_team_composition two_one = teams_of(2, 1), one_two = teams_of(1, 2);
+    const yilgashe_match_objective quality = objective(1.0, 0.0, 0.0, 0.0);
+    const yilgashe_soft_objectives skill = {{YILGASHE_SKILL}, {1.0}, 1};
+    const yilgashe_beam_search beam = {32};
+    yilgashe_constraints rules = no_rules;
+    const uint64_t late = YILGASHE_MAX_TIME + 1;
+    hall.waiting = four();
+    hall.log.len = 1;
+    hall.log.records[0].key = wide(1);
+    fresh_sheets();
+    told = yilgashe_hall_greedy_round(hall, two_one, 0, ids4, 4, ratings4, 4, players, SHEET, qualities, SHEET);
+    CHECK(told.refusal == YILGASHE_ACCEPTED && told.count == 1 && told.tried == 0 && seated(1, 4, 3, ~(uint64_t)0));
+    CHECK(told.hall.waiting.len == 1 && told.hall.waiting.entries[0].player == 2);
+    CHECK(told.hall.log.len == 1 && told.hall.log.records[0].key == wide(1));
+    told = yilgashe_hall_greedy_round(hall, two_one, late, ids4, 4, ratings4, 4, players, SHEET, qualities, SHEET);
+    CHECK(told.refusal == YILGASHE_CLOCK && told.count == 0 && told.hall.waiting.len == 4);
+    fresh_sheets();
+    told = yilgashe_hall_beam_round(hall, beam, one_two, quality, 0, ids4, 4, ratings4, 4, deviations4, 4, players, SHEET, qualities,
+                                    SHEET);
+    CHECK(told.refusal == YILGASHE_ACCEPTED && told.count == 1 && told.tried == 0 && seated(1, 3, 4, ~(uint64_t)0));
+    told = yilgashe_hall_beam_round(hall, beam, one_two, quality, late, ids4, 4, ratings4, 4, deviations4, 4, players, SHEET,
+                                    qualities, SHEET);
+    CHECK(told.refusal == YILGASHE_CLOCK && told.hall.waiting.len == 4);
+    fresh_sheets();
+    told = yilgashe_hall_full_round(hall, two_one, rules, skill, 0, ids4, 4, ratings4, 4, parties4, 4, roles4, 4, regions4, 4, players,
+                                    SHEET, qualities, SHEET);
+    CHECK(told.refusal == YILGASHE_ACCEPTED && told.count == 1 && told.tried == 4 && seated(1, 2, 4, ~(uint64_t)0));
+    CHECK(told.hall.waiting.len == 1 && told.hall.waiting.entries[0].player == 3 && qualities[0] == 0.0);
+    rules.brought.sizes = true;
+    told = yilgashe_hall_full_round(hall, two_one, rules, skill, 0, ids4, 4, ratings4, 4, parties4, 4, roles4, 4, regions4, 4, players,
+                                    SHEET, qualities, SHEET);
+    CHECK(told.refusal == YILGASHE_ACCEPTED && told.count == 0 && told.tried == 4 && told.hall.waiting.len == 4);
+    told = yilgashe_hall_full_round(hall, two_one, rules, skill, late, ids4, 4, ratings4, 4, parties4, 4, roles4, 4, regions4, 4,
+                                    players, SHEET, qualities, SHEET);
+    CHECK(told.refusal == YILGASHE_CLOCK && told.count == 0 && told.tried == 0);
+}
+
+/* Each number's word, and none beyond. */
+static void words(void)
+{
+    static const char *const due[] = {"accepted",  "over limit", "bad roster",      "short sheet", "clock",       "unranked", "too wide",
+                                      "key clash", "book full",  "already waiting", "hall full",   "not waiting", "no seats", "?"};
+    unsigned n;
+    for (n = 0; n < 14; n++) {
+        CHECK(strcmp(yilgashe_refusal_word(n), due[n]) == 0);
+    }
+    CHECK(YILGASHE_NO_SEATS == 12 && YILGASHE_ALREADY_WAITING == 9 && YILGASHE_CLOCK == 4);
+}
+
+int main(void)
+{
+    words();
+    queues();
+    batches();
+    times();
+    rosters();
+    matches();
+    scores();
+    soft_objectives();
+    vectors();
+    requirements();
+    region_pairs();
+    constraints();
+    single_constraints();
+    selections();
+    searches();
+    choices();
+    bookings();
+    key_logs();
+    rounds();
+    printf("%u passed\n", passed);
+    return 0;
+}

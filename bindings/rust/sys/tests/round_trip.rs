@@ -1,0 +1,750 @@
+//! Every field of every struct through the library: each is filled with a value of its own, sent through a call that hands it back
+//! or answers by it, and compared. A field at another place or of another width shows.
+
+use std::array::from_fn;
+use yilgashe_sys::*;
+
+const LATE: u64 = (1 << 53) + 1;
+
+/// Numbers whose bytes all differ, one for each n.
+fn wide(n: u64) -> u64 {
+    0x0123_4567_89ab_cd00 + n
+}
+
+fn entry(n: u64) -> QueueEntry {
+    QueueEntry {
+        player: wide(n),
+        joined: 0x0010_2030_4050_6000 + n,
+        rating: 1000.5 + n as f64,
+        party: !wide(n),
+        role: 0x89ab_cd00 + n as u32,
+    }
+}
+
+/// 64 entries, by 64 calls.
+fn full_queue() -> Queue {
+    (0..64).fold(queue_empty(), |queue, n| {
+        let after = queue_enqueue(queue, entry(n));
+        assert_eq!((after.refusal, after.queue.len), (0, n as usize + 1));
+        after.queue
+    })
+}
+
+fn team<const N: usize>(players: [u64; N]) -> Team {
+    Team {
+        players: from_fn(|place| players.get(place).copied().unwrap_or(0)),
+        len: N,
+    }
+}
+
+/// Guest x against guest y.
+fn pair(x: u64, y: u64) -> ProposedMatch {
+    ProposedMatch {
+        a: team([x]),
+        b: team([y]),
+    }
+}
+
+/// Teams of 8, all different: A's are wide(0) to wide(7), B's wide(8) to wide(15).
+fn full_match() -> ProposedMatch {
+    ProposedMatch {
+        a: team(from_fn::<u64, 8, _>(|n| wide(n as u64))),
+        b: team(from_fn::<u64, 8, _>(|n| wide(8 + n as u64))),
+    }
+}
+
+fn no_requirements() -> RoleRequirements {
+    let blank = RoleRequirement {
+        role: 0,
+        least: 0,
+        bounded: false,
+        most: 0,
+    };
+    RoleRequirements {
+        of: [blank; 8],
+        len: 0,
+    }
+}
+
+fn region_pairs(pairs: [(u8, u8); 16], count: usize) -> RegionConstraint {
+    RegionConstraint {
+        pairs: pairs.map(|(first, second)| RegionPair { first, second }),
+        count,
+    }
+}
+
+fn no_rules() -> Constraints {
+    Constraints {
+        brought: Brought {
+            sizes: false,
+            roles: false,
+            parties: false,
+            latency: false,
+            regions: false,
+        },
+        sizes: TeamSizeConstraint { a: 0, b: 0 },
+        roles: no_requirements(),
+        regions: region_pairs([(0, 0); 16], 0),
+    }
+}
+
+fn wishes(kind: u8, weight: f64) -> SoftObjectives {
+    SoftObjectives {
+        kinds: [kind, 0, 0, 0, 0, 0, 0, 0],
+        weights: [weight, 0.0, 0.0, 0.0, 0.0, 0.0, 0.0, 0.0],
+        len: 1,
+    }
+}
+
+#[test]
+fn entries_of_a_queue() {
+    let mut queue = full_queue();
+    let more = queue_enqueue(queue, entry(64));
+    assert_eq!((more.refusal, more.queue.len), (1, 64));
+    assert!((0..64).all(|n| more.queue.entries[n as usize] == entry(n)));
+    for n in 0..64 {
+        let taken = queue_remove(queue, wide(n));
+        assert_eq!((taken.refusal, taken.found), (0, true));
+        assert_eq!(taken.entry, entry(n));
+        queue = taken.queue;
+        assert_eq!(queue.len, 63 - n as usize);
+        assert!(n == 63 || queue.entries[0] == entry(n + 1));
+    }
+    assert!(!queue_remove(queue, wide(0)).found);
+    queue.len = 65;
+    assert_eq!(queue_remove(queue, wide(0)).refusal, 1);
+}
+
+#[test]
+fn both_queues_of_a_batch() {
+    let mut queue = full_queue();
+    let parted = queue_remove_batch(queue, &[wide(63), wide(1)]);
+    assert_eq!(
+        (parted.refusal, parted.kept.len, parted.removed.len),
+        (0, 62, 2)
+    );
+    assert_eq!(parted.kept.entries[0], entry(0));
+    assert_eq!(parted.kept.entries[61], entry(62));
+    assert_eq!(parted.removed.waiting(), [entry(1), entry(63)]);
+    queue.entries[63].joined = LATE;
+    assert_eq!(queue_remove_batch(queue, &[]).refusal, 4);
+}
+
+#[test]
+fn times() {
+    let queue = full_queue();
+    let long = wide(0) / 1024;
+    let waited = queue_waiting_time(queue, wide(5), entry(5).joined + long);
+    assert_eq!(
+        (waited.nanos, waited.found, waited.refusal),
+        (long, true, 0)
+    );
+    let nobody = queue_waiting_time(queue, 1, 0);
+    assert_eq!((nobody.nanos, nobody.found, nobody.refusal), (0, false, 0));
+    assert_eq!(queue_waiting_time(queue, 1, LATE).refusal, 4);
+    let gone = time_duration_since(LATE - 1, 1);
+    assert_eq!((gone.nanos, gone.refusal), (LATE - 2, 0));
+    assert_eq!(time_duration_since(LATE, 0).refusal, 4);
+    let told = time_as_secs_f64(1_500_000_000);
+    assert_eq!((told.seconds, told.refusal), (1.5, 0));
+    assert_eq!(time_as_secs_f64(LATE).refusal, 4);
+}
+
+/// Each column must be as long as the others, and a region code at most 4.
+#[test]
+fn columns_of_a_roster() {
+    let check = |len: [usize; 6]| {
+        roster_check(
+            &[1, 2][..len[0]],
+            &[1.0, 2.0][..len[1]],
+            &[3.0, 4.0][..len[2]],
+            &[0, 0][..len[3]],
+            &[0, 0][..len[4]],
+            &[4, 5][..len[5]],
+        )
+    };
+    assert_eq!(check([1; 6]), 0);
+    for column in 0..6 {
+        assert_eq!(check(from_fn(|n| if n == column { 2 } else { 1 })), 2);
+    }
+    assert_eq!(check([2; 6]), 2);
+}
+
+/// With one guest rostered, the quality says whether he is seated, at each of the 16 seats.
+#[test]
+fn seats_of_a_match() {
+    for n in 0..16 {
+        let rating = 160.0 * (n + 1) as f64;
+        let seated = match_quality(full_match(), &[wide(n)], &[rating]);
+        assert_eq!(seated.value, 1.0 - 20.0 * (n + 1) as f64 / 400.0);
+        assert_eq!(seated.refusal, 0);
+        let mut without = full_match();
+        let side = if n < 8 {
+            &mut without.a
+        } else {
+            &mut without.b
+        };
+        side.players[n as usize % 8] = 0;
+        assert_eq!(match_quality(without, &[wide(n)], &[rating]).value, 1.0);
+    }
+    let (mut long_a, mut long_b) = (full_match(), full_match());
+    long_a.a.len = 9;
+    long_b.b.len = 9;
+    assert_eq!(match_quality(long_a, &[], &[]).refusal, 1);
+    assert_eq!(match_quality(long_b, &[], &[]).refusal, 1);
+}
+
+/// Quality 0.75, a wait of 2 minutes, an average deviation of 175 / 350. The ping is 0.0: only an infinite weight shows.
+#[test]
+fn weights_of_a_score() {
+    let first = QueueEntry {
+        player: 1,
+        ..QueueEntry::default()
+    };
+    let score = |objective, deviations: &[f64]| {
+        match_score(
+            objective,
+            pair(1, 2),
+            Queue::of(&[first]),
+            &[1, 2],
+            &[1000.0, 1100.0],
+            deviations,
+            120_000_000_000,
+        )
+    };
+    let weights = MatchObjective {
+        quality: 1000.0,
+        wait: 10.0,
+        ping: 1.0,
+        uncertainty: 4.0,
+    };
+    let told = score(weights, &[100.0, 250.0]);
+    assert_eq!(
+        (told.value, told.refusal),
+        (1000.0 * 0.75 - 10.0 * 2.0 - 4.0 * 0.5, 0)
+    );
+    let ping = f64::INFINITY;
+    assert!(
+        score(MatchObjective { ping, ..weights }, &[100.0, 250.0])
+            .value
+            .is_nan()
+    );
+    assert_eq!(score(weights, &[100.0]).refusal, 2);
+}
+
+/// At each of the 8 places, each kind with a weight of its own.
+#[test]
+fn places_of_soft_objectives() {
+    let (ids, ratings) = ([1, 2], [100.0, 60.0]);
+    let values = [1.0 - 40.0 / 400.0, 1.0 - 80.0 / 200.0, 0.5];
+    for n in 0..8 {
+        for kind in 0..3 {
+            let mut wished = wishes(0, 0.0);
+            wished.kinds[n] = kind;
+            wished.weights[n] = 3.0 + n as f64;
+            wished.len = 8;
+            let value = values[kind as usize];
+            let told = soft_score(wished, pair(1, 2), &ids, &ratings);
+            assert_eq!((told.value, told.refusal), ((3.0 + n as f64) * value, 0));
+            wished.len = n;
+            assert_eq!(soft_score(wished, pair(1, 2), &ids, &ratings).value, 0.0);
+            assert_eq!(
+                soft_value(kind, 7.0, pair(1, 2), &ids, &ratings).value,
+                value
+            );
+        }
+    }
+    assert_eq!(soft_value(3, 1.0, pair(1, 2), &ids, &ratings).refusal, 1);
+}
+
+#[test]
+fn coordinates_of_a_vector() {
+    let weights = ObjectiveWeights {
+        skill: 2.0,
+        role: 3.0,
+        latency: 5.0,
+        party: 7.0,
+        wait: 11.0,
+        utilization: 13.0,
+    };
+    let signed = [2.0, 3.0, 5.0, 7.0, -11.0, 13.0];
+    let zeros = vector_default();
+    assert_eq!(zeros.coordinates(), [0.0; 6]);
+    for (n, weight) in signed.into_iter().enumerate() {
+        let vector = MatchObjectiveVector::of(from_fn(|at| if at == n { 1.5 } else { 0.0 }));
+        assert_eq!(vector_scalarize(vector, weights), 1.5 * weight);
+        assert_eq!(vector_dominates(vector, zeros), n != 4);
+        assert_eq!(vector_dominates(zeros, vector), n == 4);
+    }
+    let usual = weights_default();
+    assert_eq!((usual.skill, usual.role, usual.latency), (1.0, 0.5, 0.3));
+    assert_eq!(
+        (usual.party, usual.wait, usual.utilization),
+        (0.2, 0.8, 0.0)
+    );
+}
+
+/// At each of the 8 places, a requirement of its own that fails by its minimum, then by its maximum.
+#[test]
+fn places_of_requirements() {
+    let (ids, roles) = ([1, 2, 3], [0x89ab_cdef, 0x89ab_cdef, 7]);
+    let validate = |size, asked| team_validate(size, asked, team([1, 2, 3]), &ids, &roles);
+    let satisfied = |asked| roles_satisfied(asked, pair(1, 2), &ids, &roles);
+    for n in 0..8 {
+        let mut asked = no_requirements();
+        asked.len = n + 1;
+        asked.of[n].role = 0x89ab_cdef;
+        asked.of[n].least = 3;
+        let few = validate(3, asked);
+        assert_eq!((few.refusal, few.fault, few.place), (0, 2, n));
+        asked.of[n].least = 2;
+        asked.of[n].most = 1;
+        assert_eq!(validate(3, asked).fault, 0);
+        assert!(satisfied(asked).satisfied);
+        asked.of[n].bounded = true;
+        let many = validate(3, asked);
+        assert_eq!((many.fault, many.place), (3, n));
+        assert!(!satisfied(asked).satisfied);
+        assert_eq!(validate(2, asked).fault, 1);
+        asked.len = 9;
+        assert_eq!(
+            (validate(3, asked).refusal, satisfied(asked).refusal),
+            (1, 1)
+        );
+    }
+}
+
+/// Region 1 meets region 2 only by the pair at one of the 16 places, which no shorter list has.
+#[test]
+fn places_of_region_pairs() {
+    let told = |allowed| regions_satisfied(allowed, pair(1, 2), &[1, 2], &[1, 2]);
+    for n in 0..16 {
+        let pairs = from_fn(|at| if at == n { (2, 1) } else { (0, 0) });
+        let all = told(region_pairs(pairs, 16));
+        assert_eq!((all.satisfied, all.refusal), (true, 0));
+        assert!(!told(region_pairs(pairs, n)).satisfied);
+        assert!(
+            !told(region_pairs(
+                from_fn(|at| if at == n { (2, 0) } else { (0, 0) }),
+                16
+            ))
+            .satisfied
+        );
+    }
+    assert_eq!(told(region_pairs([(0, 5); 16], 1)).refusal, 2);
+}
+
+/// Constraint n is brought alone and violated, and no other would be; at last all are brought and met.
+#[test]
+fn parts_of_constraints() {
+    for n in 0..6 {
+        let mut rules = no_rules();
+        let [sizes, roles, parties, latency, regions] = from_fn(|kind| n == kind || n == 5);
+        rules.brought = Brought {
+            sizes,
+            roles,
+            parties,
+            latency,
+            regions,
+        };
+        rules.sizes = TeamSizeConstraint {
+            a: 1,
+            b: if n == 0 { 2 } else { 1 },
+        };
+        rules.roles.of[0].role = 5;
+        rules.roles.of[0].least = if n == 1 { 1 } else { 0 };
+        rules.roles.len = 1;
+        rules.regions = region_pairs([(1, if n == 4 { 1 } else { 2 }); 16], 1);
+        let ratings = [if n == 3 { -1.0 } else { 1.0 }, 1.0, 1.0];
+        let parties = [9, 0, if n == 2 { 9 } else { 8 }];
+        let told = constraints_satisfied(
+            rules,
+            pair(1, 2),
+            &[1, 2, 3],
+            &ratings,
+            &parties,
+            &[0; 3],
+            &[1, 2, 1],
+        );
+        assert_eq!((told.satisfied, told.refusal), (n == 5, 0));
+        let score = policy_score(
+            rules,
+            wishes(2, 6.0),
+            pair(1, 2),
+            &[1, 2, 3],
+            &ratings,
+            &parties,
+            &[0; 3],
+            &[1, 2, 1],
+        );
+        let due = if n == 5 { 3.0 } else { f64::NEG_INFINITY };
+        assert_eq!((score.value, score.refusal), (due, 0));
+    }
+}
+
+#[test]
+fn constraints_by_themselves() {
+    let mut proposed = full_match();
+    (proposed.a.len, proposed.b.len) = (3, 5);
+    assert!(sizes_satisfied(TeamSizeConstraint { a: 3, b: 5 }, proposed).satisfied);
+    assert!(!sizes_satisfied(TeamSizeConstraint { a: 5, b: 3 }, proposed).satisfied);
+    proposed.a.len = 9;
+    assert_eq!(
+        sizes_satisfied(TeamSizeConstraint { a: 5, b: 3 }, proposed).refusal,
+        1
+    );
+    assert!(parties_satisfied(pair(1, 3), &[1, 2, 3], &[9, 0, 9]).satisfied);
+    assert!(!parties_satisfied(pair(1, 2), &[1, 2, 3], &[9, 0, 9]).satisfied);
+    assert!(latency_satisfied(pair(2, 2), &[1, 2], &[-1.0, 1.0]).satisfied);
+    assert!(!latency_satisfied(pair(1, 2), &[1, 2], &[-1.0, 1.0]).satisfied);
+}
+
+/// 64 candidates of different quality: their order names every place.
+#[test]
+fn places_of_candidates() {
+    let ids: [u64; 65] = from_fn(|n| wide(n as u64));
+    let ratings: [f64; 65] = from_fn(|n| 1000.0 + (n * 37 % 64) as f64);
+    let mut all = Candidates {
+        of: from_fn(|n| pair(wide(n as u64), wide(64))),
+        len: 64,
+    };
+    let skill = wishes(0, 1.0);
+    let mut weights = vector_default();
+    weights.skill = 1.0;
+    let order = select_weighted(weights, all, &ids, &ratings);
+    assert_eq!((order.refusal, order.len), (0, 64));
+    assert!((0..64).all(|n| order.places[n] < 64 && order.places[n] * 37 % 64 == n));
+    assert_eq!(select_greedy(skill, all, &ids, &ratings).chosen(), [0]);
+    assert_eq!(
+        select_threshold(0.9975, skill, all, &ids, &ratings).chosen(),
+        [0]
+    );
+    assert_eq!(
+        select_lexicographic(skill, all, &ids, &ratings).chosen(),
+        [0]
+    );
+    all.len = 65;
+    assert_eq!(select_greedy(skill, all, &ids, &ratings).refusal, 1);
+}
+
+/// Four guests wait.
+const IDS: [u64; 4] = [1, 2, 3, 4];
+const RATINGS: [f64; 4] = [1000.0, 1280.0, 1010.0, 1090.0];
+const TWO_ONE: TeamComposition = TeamComposition { a: 2, b: 1 };
+const ONE_TWO: TeamComposition = TeamComposition { a: 1, b: 2 };
+const QUALITY: MatchObjective = MatchObjective {
+    quality: 1.0,
+    wait: 0.0,
+    ping: 0.0,
+    uncertainty: 0.0,
+};
+
+fn four() -> Queue {
+    Queue::of(&from_fn::<QueueEntry, 4, _>(|n| QueueEntry {
+        player: IDS[n],
+        rating: RATINGS[n],
+        ..QueueEntry::default()
+    }))
+}
+
+/// Sheets whose untouched places can be told.
+fn sheets() -> ([u64; 64], [f64; 64]) {
+    ([u64::MAX; 64], [-1.0; 64])
+}
+
+/// Teams of 2 and 1 are not teams of 1 and 2.
+#[test]
+fn sizes_and_sheets_of_searches() {
+    let (mut players, mut qualities) = sheets();
+    let told = search_greedy(
+        four(),
+        TWO_ONE,
+        &IDS,
+        &RATINGS,
+        &mut players,
+        &mut qualities,
+    );
+    assert_eq!((told.refusal, told.count), (0, 1));
+    assert_eq!(
+        (&players[..4], qualities[1]),
+        (&[1, 4, 3, u64::MAX][..], -1.0)
+    );
+    let short = search_greedy(
+        four(),
+        TWO_ONE,
+        &IDS,
+        &RATINGS,
+        &mut players[1..],
+        &mut qualities,
+    );
+    assert_eq!(short.refusal, 3);
+    let (mut players, mut qualities) = sheets();
+    search_greedy(
+        four(),
+        ONE_TWO,
+        &IDS,
+        &RATINGS,
+        &mut players,
+        &mut qualities,
+    );
+    assert_eq!(
+        (&players[..4], qualities[0]),
+        (&[1, 3, 4, u64::MAX][..], 1.0 - 50.0 / 400.0)
+    );
+}
+
+#[test]
+fn width_of_a_beam() {
+    let (mut players, mut qualities) = sheets();
+    let mut beam = |width| {
+        search_beam(
+            BeamSearch { width },
+            four(),
+            ONE_TWO,
+            QUALITY,
+            &IDS,
+            &RATINGS,
+            &[0.0; 4],
+            0,
+            &mut players,
+            &mut qualities,
+        )
+    };
+    assert_eq!((beam(33).refusal, beam(33).count), (1, 0));
+    assert_eq!((beam(32).refusal, beam(32).count), (0, 1));
+    assert_eq!(players[..4], [1, 3, 4, u64::MAX]);
+}
+
+#[test]
+fn matches_of_generators() {
+    let (mut players, mut qualities) = sheets();
+    let one = GreedyNearestGenerator { max: 1 };
+    let near = generate_nearest(
+        one,
+        four(),
+        ONE_TWO,
+        &IDS,
+        &RATINGS,
+        &mut players,
+        &mut qualities,
+    );
+    assert_eq!((near.refusal, near.count), (0, 1));
+    assert_eq!(
+        (&players[..4], qualities[0]),
+        (&[1, 3, 4, u64::MAX][..], 0.0)
+    );
+    let (mut players, mut qualities) = sheets();
+    let all = generate_exhaustive(four(), TWO_ONE, &mut players[..12], &mut qualities[..4]);
+    assert_eq!((all.refusal, all.count), (0, 4));
+    assert_eq!(players[..6], [1, 2, 3, 1, 2, 4]);
+    assert_eq!((players[11], players[12]), (4, u64::MAX));
+    assert_eq!((qualities[3], qualities[4]), (0.0, -1.0));
+}
+
+/// 16 guests for two teams of 8: one choice, which names every seat of the answer.
+#[test]
+fn seats_of_a_choice() {
+    let queue = Queue::of(&from_fn::<QueueEntry, 16, _>(|n| entry(n as u64)));
+    let best = |queue, a, rules| {
+        let sizes = TeamComposition { a, b: a };
+        best_choice(
+            queue,
+            sizes,
+            rules,
+            wishes(2, 1.0),
+            &IDS,
+            &RATINGS,
+            &[0; 4],
+            &[0; 4],
+            &[0; 4],
+        )
+    };
+    let told = best(queue, 8, no_rules());
+    assert_eq!((told.refusal, told.found, told.tried), (0, true, 1));
+    assert_eq!(told.teams.a.seated(), full_match().a.seated());
+    assert_eq!(told.teams.b.seated(), full_match().b.seated());
+    let mut rules = no_rules();
+    rules.brought.sizes = true;
+    let none = best(queue, 1, rules);
+    assert_eq!((none.refusal, none.found, none.tried), (0, false, 120));
+    let wide = best(full_queue(), 1, rules);
+    assert_eq!((wide.refusal, wide.found, wide.tried), (6, false, 0));
+}
+
+fn record(key: u64, player: u64, kind: u8, answer: u8) -> KeyRecord {
+    KeyRecord {
+        key,
+        player,
+        kind,
+        answer,
+    }
+}
+
+/// Each booking makes its entry and its record; the 65th meets a full hall, and a resend the noted answer.
+#[test]
+fn fields_of_bookings() {
+    let mut hall = hall_empty();
+    assert_eq!((hall.waiting.len, hall.log.len), (0, 0));
+    for n in 0..65 {
+        let told = hall_book(hall, !wide(n), Booking::of(&entry(n)));
+        assert_eq!(told.refusal, if n == 64 { 10 } else { 0 });
+        hall = told.hall;
+        let noted = record(!wide(n), wide(n), 0, told.refusal);
+        assert_eq!(hall.log.noted().last(), Some(&noted));
+    }
+    let again = hall_book(hall, !wide(64), Booking::of(&entry(64)));
+    assert_eq!((again.refusal, again.hall.log.len), (10, 65));
+    assert_eq!(again.hall.waiting.len, 64);
+    assert!((0..64).all(|n| again.hall.waiting.entries[n as usize] == entry(n)));
+    let left = hall_withdraw(hall, 5, wide(0));
+    assert_eq!((left.refusal, left.hall.waiting.len), (0, 63));
+    assert_eq!(left.hall.waiting.entries[62], entry(63));
+    let gone = hall_withdraw(left.hall, 6, wide(0));
+    assert_eq!(gone.refusal, 11);
+    let noted = [record(5, wide(0), 1, 0), record(6, wide(0), 1, 11)];
+    assert_eq!(gone.hall.log.noted()[65..], noted);
+}
+
+/// A log of 1,024 records, every field of its own, comes back from a call that it refuses, and answers by any of them.
+#[test]
+fn records_of_a_key_log() {
+    let answers = [0, 4, 9, 10, 0, 11, 0, 11];
+    let records: Vec<KeyRecord> = (0..1024)
+        .map(|n| {
+            record(
+                0x1122_3344_5566_0000 + n,
+                0x99aa_bbcc_ddee_0000 + n,
+                (n / 4 % 2) as u8,
+                answers[n as usize % 8],
+            )
+        })
+        .collect();
+    let mut hall = Hall {
+        waiting: full_queue(),
+        log: KeyLog::of(&records),
+    };
+    let told = hall_book(hall, 1, Booking::of(&entry(0)));
+    assert_eq!(told.refusal, 8);
+    assert_eq!(told.hall.log.noted(), records);
+    assert_eq!(told.hall.waiting.waiting(), hall.waiting.waiting());
+    for noted in records.iter().step_by(31) {
+        let booking = Booking {
+            player: noted.player,
+            ..Booking::of(&entry(0))
+        };
+        let booked = hall_book(hall, noted.key, booking);
+        let left = hall_withdraw(hall, noted.key, noted.player);
+        let due = if noted.kind == 0 {
+            (noted.answer, 7)
+        } else {
+            (7, noted.answer)
+        };
+        assert_eq!((booked.refusal, left.refusal), due);
+    }
+    hall.log.len = 1025;
+    assert_eq!(hall_withdraw(hall, 1, 1).refusal, 1);
+}
+
+fn hall_of_four() -> Hall {
+    Hall {
+        waiting: four(),
+        log: KeyLog::of(&[record(wide(1), 1, 0, 0)]),
+    }
+}
+
+/// Who still waits after a round, by which the hall's place in the answer shows.
+fn left(told: &Rounded) -> Vec<u64> {
+    assert_eq!(told.hall.log.noted(), [record(wide(1), 1, 0, 0)]);
+    told.hall
+        .waiting
+        .waiting()
+        .iter()
+        .map(|e| e.player)
+        .collect()
+}
+
+#[test]
+fn answer_of_a_greedy_round() {
+    let (mut players, mut qualities) = sheets();
+    let mut round = |clock| {
+        hall_greedy_round(
+            hall_of_four(),
+            TWO_ONE,
+            clock,
+            &IDS,
+            &RATINGS,
+            &mut players,
+            &mut qualities,
+        )
+    };
+    let late = round(LATE);
+    assert_eq!((late.refusal, late.count, left(&late).len()), (4, 0, 4));
+    let told = round(0);
+    assert_eq!((told.refusal, told.count, told.tried), (0, 1, 0));
+    assert_eq!(
+        (&players[..4], left(&told)),
+        (&[1, 4, 3, u64::MAX][..], vec![2])
+    );
+}
+
+#[test]
+fn answer_of_a_beam_round() {
+    let (mut players, mut qualities) = sheets();
+    let mut round = |clock| {
+        hall_beam_round(
+            hall_of_four(),
+            BeamSearch { width: 32 },
+            ONE_TWO,
+            QUALITY,
+            clock,
+            &IDS,
+            &RATINGS,
+            &[0.0; 4],
+            &mut players,
+            &mut qualities,
+        )
+    };
+    let late = round(LATE);
+    assert_eq!((late.refusal, late.count, left(&late).len()), (4, 0, 4));
+    let told = round(0);
+    assert_eq!((told.refusal, told.count, told.tried), (0, 1, 0));
+    assert_eq!(
+        (&players[..4], left(&told)),
+        (&[1, 3, 4, u64::MAX][..], vec![2])
+    );
+}
+
+#[test]
+fn answer_of_a_full_round() {
+    let (mut players, mut qualities) = sheets();
+    let mut round = |rules, clock| {
+        hall_full_round(
+            hall_of_four(),
+            TWO_ONE,
+            rules,
+            wishes(0, 1.0),
+            clock,
+            &IDS,
+            &RATINGS,
+            &[0; 4],
+            &[0; 4],
+            &[0; 4],
+            &mut players,
+            &mut qualities,
+        )
+    };
+    let mut unmet = no_rules();
+    unmet.brought.sizes = true;
+    let none = round(unmet, 0);
+    assert_eq!((none.refusal, none.count, none.tried), (0, 0, 4));
+    let late = round(no_rules(), LATE);
+    assert_eq!((late.refusal, late.count, late.tried), (4, 0, 0));
+    assert_eq!(left(&late).len(), 4);
+    let told = round(no_rules(), 0);
+    assert_eq!((told.refusal, told.count, told.tried), (0, 1, 4));
+    assert_eq!(
+        (&players[..4], left(&told)),
+        (&[1, 2, 4, u64::MAX][..], vec![3])
+    );
+    assert_eq!((qualities[0], qualities[1]), (0.0, -1.0));
+}

@@ -1,0 +1,281 @@
+//! The safe crate at the counter: what it adds is types, so each refusal that its types still allow is met once.
+
+use yilgashe::{
+    Booking, Constraints, Fault, Hall, Match, MatchObjective, ProposedMatch, Queue, QueueEntry,
+    Refusal, Region, RoleRequirement, Roster, Row, SoftObjective, TeamComposition, TeamRule,
+    select, sys, time,
+};
+
+const PAIRS: TeamComposition = TeamComposition { a: 1, b: 1 };
+
+fn entry(player: u64) -> QueueEntry {
+    QueueEntry {
+        player,
+        rating: 1000.0,
+        ..QueueEntry::default()
+    }
+}
+
+fn booking(player: u64) -> Booking {
+    Booking::of(&entry(player))
+}
+
+fn queue(players: u64) -> Queue {
+    (1..=players).map(entry).collect()
+}
+
+fn rated(ratings: &[f64]) -> Roster {
+    (1..)
+        .zip(ratings)
+        .map(|(player, &rating)| Row {
+            player,
+            rating,
+            ..Row::default()
+        })
+        .collect()
+}
+
+fn hall(players: u64) -> Hall {
+    let mut hall = Hall::new();
+    for player in 1..=players {
+        hall.book(player, booking(player)).unwrap();
+    }
+    hall
+}
+
+#[test]
+fn refusals_print_as_number_and_word() {
+    let words = "1 over limit, 2 bad roster, 3 short sheet, 4 clock, 5 unranked, 6 too wide, 7 key clash, 8 book full, \
+                 9 already waiting, 10 hall full, 11 not waiting, 12 no seats";
+    let printed: Vec<String> = Refusal::ALL.iter().map(Refusal::to_string).collect();
+    assert_eq!(printed.join(", "), words);
+    assert_eq!(Refusal::from_number(0), None);
+    assert_eq!(Refusal::from_number(13), None);
+}
+
+#[test]
+fn keyed_refusals() {
+    let mut hall = hall(64);
+    assert_eq!(hall.book(65, booking(1)), Err(Refusal::AlreadyWaiting));
+    assert_eq!(hall.book(66, booking(65)), Err(Refusal::HallFull));
+    let late = Booking {
+        joined: time::MAX + 1,
+        ..booking(65)
+    };
+    assert_eq!(hall.book(67, late), Err(Refusal::Clock));
+    assert_eq!(hall.withdraw(1, 1), Err(Refusal::KeyClash));
+    assert_eq!(hall.withdraw(68, 65), Err(Refusal::NotWaiting));
+    assert_eq!(hall.noted().len(), 68);
+    for key in 69..=1024 {
+        assert_eq!(hall.withdraw(key, 65), Err(Refusal::NotWaiting));
+    }
+    assert_eq!(hall.withdraw(1025, 1), Err(Refusal::BookFull));
+    assert_eq!(hall.withdraw(68, 65), Err(Refusal::NotWaiting)); // noted
+    assert_eq!(hall.waiting().len(), 64);
+}
+
+#[test]
+fn a_hall_is_kept_and_taken_up_again() {
+    let kept = *hall(3).as_ref();
+    let mut again = Hall::from(kept);
+    assert_eq!(again.book(2, booking(2)), Ok(()));
+    assert_eq!(again.waiting(), hall(3).waiting());
+    let mut over = kept;
+    over.log.len = 1025;
+    assert_eq!(Hall::from(over).withdraw(9, 1), Err(Refusal::OverLimit));
+}
+
+#[test]
+fn rounds_seat_and_refuse() {
+    let roster = rated(&[1000.0, 1000.0, 1200.0]);
+    let mut beam = hall(3);
+    let weights = MatchObjective {
+        quality: 1.0,
+        ..MatchObjective::default()
+    };
+    assert_eq!(
+        beam.beam_round(33, PAIRS, weights, 0, &roster),
+        Err(Refusal::OverLimit)
+    );
+    let nan = MatchObjective {
+        quality: f64::NAN,
+        ..weights
+    };
+    assert_eq!(
+        beam.beam_round(8, PAIRS, nan, 0, &roster),
+        Err(Refusal::Unranked)
+    );
+    let seated = beam.beam_round(8, PAIRS, weights, 0, &roster).unwrap();
+    let table = Match {
+        team_a: &[1],
+        team_b: &[2],
+        quality: 1.0,
+    };
+    assert_eq!(seated.iter().collect::<Vec<_>>(), [table]);
+    assert_eq!(beam.waiting(), [entry(3)]);
+    let free = Constraints::default();
+    let round = hall(21).full_round(PAIRS, &free, &[], 0, &roster);
+    assert_eq!(round, Err(Refusal::TooWide));
+    let none = hall(1).full_round(PAIRS, &free, &[], 0, &roster).unwrap();
+    assert!(none.matches.is_empty() && none.tried == 0);
+    let all = hall(20).full_round(PAIRS, &free, &[], 0, &roster).unwrap();
+    assert_eq!((all.matches.players(), all.tried), (&[19, 20][..], 190));
+    let late = hall(2).greedy_round(PAIRS, time::MAX + 1, &roster);
+    assert_eq!(late, Err(Refusal::Clock));
+}
+
+#[test]
+fn lists_that_are_too_long_are_refused() {
+    let nobody = Roster::new();
+    let table = ProposedMatch::new(&[1], &[2]).unwrap();
+    assert_eq!(queue(65).greedy(PAIRS, &nobody), Err(Refusal::OverLimit));
+    assert_eq!(ProposedMatch::new(&[0; 9], &[]), Err(Refusal::OverLimit));
+    assert_eq!(table.quality(&rated(&[0.0; 129])), Err(Refusal::OverLimit));
+    let many = [SoftObjective::Wait(1.0); 9];
+    assert_eq!(
+        yilgashe::soft_score(&many, &table, &nobody),
+        Err(Refusal::OverLimit)
+    );
+    let tables = [table; 65];
+    assert_eq!(
+        select::greedy(&many[..1], &tables, &nobody),
+        Err(Refusal::OverLimit)
+    );
+    let pairs = [(Region::Eu, Region::Eu); 17];
+    assert_eq!(
+        table.keeps_regions(&pairs, &nobody),
+        Err(Refusal::OverLimit)
+    );
+    let need = RoleRequirement {
+        role: 1,
+        least: 0,
+        most: None,
+    };
+    assert_eq!(
+        table.has_roles(&[need; 9], &nobody),
+        Err(Refusal::OverLimit)
+    );
+}
+
+#[test]
+fn generators_fill_their_sheets() {
+    let nobody = Roster::new();
+    let fives = TeamComposition { a: 5, b: 5 };
+    let all = queue(20).exhaustive(fives).unwrap();
+    assert_eq!(all.len(), 184_756);
+    let last = all.iter().last().unwrap();
+    assert_eq!(last.team_a, [11, 12, 13, 14, 15]);
+    assert_eq!(last.team_b, [16, 17, 18, 19, 20]);
+    assert_eq!(queue(21).exhaustive(PAIRS), Err(Refusal::TooWide));
+    let none = TeamComposition { a: 0, b: 0 };
+    assert_eq!(queue(3).exhaustive(none).unwrap().len(), 1);
+    let huge = TeamComposition {
+        a: usize::MAX,
+        b: 1,
+    };
+    assert_eq!(queue(3).exhaustive(huge), Err(Refusal::OverLimit));
+    assert_eq!(queue(3).nearest(9, none, &nobody), Err(Refusal::NoSeats));
+    assert_eq!(queue(64).nearest(99, PAIRS, &nobody).unwrap().len(), 32);
+    assert_eq!(queue(64).nearest(3, PAIRS, &nobody).unwrap().len(), 3);
+}
+
+#[test]
+fn constraints_one_by_one_and_all_together() {
+    let row = |player, party, role, region| Row {
+        player,
+        rating: 1.0,
+        party,
+        role,
+        region,
+        ..Row::default()
+    };
+    let roster: Roster = [
+        row(1, 7, 1, Region::Eu),
+        row(2, 0, 1, Region::Asia),
+        row(3, 7, 2, Region::Eu),
+    ]
+    .into_iter()
+    .collect();
+    let table = ProposedMatch::new(&[1], &[2]).unwrap();
+    let need = RoleRequirement {
+        role: 1,
+        least: 1,
+        most: Some(1),
+    };
+    assert_eq!(table.has_sizes(PAIRS), Ok(true));
+    assert_eq!(table.has_roles(&[need], &roster), Ok(false));
+    assert_eq!(table.keeps_parties(&roster), Ok(false));
+    assert_eq!(table.meets_latency(&roster), Ok(true));
+    let allowed = vec![(Region::Asia, Region::Eu)];
+    assert_eq!(table.keeps_regions(&allowed, &roster), Ok(true));
+    let mut rules = Constraints {
+        sizes: Some(PAIRS),
+        latency: true,
+        regions: Some(allowed),
+        ..Constraints::default()
+    };
+    let wishes = [SoftObjective::Wait(4.0)];
+    assert_eq!(rules.score(&wishes, &table, &roster), Ok(2.0));
+    rules.parties = true;
+    let score = rules.score(&wishes, &table, &roster);
+    assert_eq!(score, Ok(f64::NEG_INFINITY));
+    let rule = TeamRule {
+        size: 2,
+        roles: vec![need],
+    };
+    assert_eq!(rule.validate(&[1, 3], &roster), Ok(None));
+    assert_eq!(rule.validate(&[1], &roster), Ok(Some(Fault::WrongSize)));
+    let many = rule.validate(&[1, 2], &roster);
+    assert_eq!(many, Ok(Some(Fault::TooMany(0))));
+    let few = rule.validate(&[3, 4], &roster);
+    assert_eq!(few, Ok(Some(Fault::TooFew(0))));
+}
+
+#[test]
+fn selections_answer_places() {
+    let roster = rated(&[1000.0, 1100.0, 1200.0, 1000.0]);
+    let against = |b| ProposedMatch::new(&[1], &[b]).unwrap();
+    let tables = [against(3), against(2), against(4), against(2)];
+    let skill = [SoftObjective::Skill(1.0)];
+    assert_eq!(select::greedy(&skill, &tables, &roster), Ok(Some(2)));
+    assert_eq!(
+        select::threshold(0.7, &skill, &tables, &roster),
+        Ok(Some(1))
+    );
+    assert_eq!(select::threshold(2.0, &skill, &tables, &roster), Ok(None));
+    let kept = select::lexicographic(&skill, &tables[..2], &roster);
+    assert_eq!(kept, Ok(vec![1]));
+    let weights = yilgashe::vector::default_weights();
+    let order = select::weighted(weights, &tables, &roster);
+    assert_eq!(order, Ok(vec![2, 1, 3, 0]));
+    assert_eq!(select::greedy(&skill, &[], &roster), Ok(None));
+}
+
+#[test]
+fn queues_and_best_choices() {
+    let mut three = queue(3);
+    let choice = three
+        .best_choice(PAIRS, &Constraints::default(), &[], &Roster::new())
+        .unwrap();
+    assert_eq!(choice.best, ProposedMatch::new(&[2], &[3]).ok());
+    assert_eq!(choice.tried, 3);
+    assert_eq!(three.remove_batch(&[3, 1]), Ok(vec![entry(1), entry(3)]));
+    assert_eq!(three.entries(), [entry(2)]);
+    let late = QueueEntry {
+        joined: time::MAX + 1,
+        ..entry(9)
+    };
+    assert_eq!(three.enqueue(late), Err(Refusal::Clock));
+    assert_eq!(three.len(), 1);
+    assert_eq!(Queue::from(sys::queue_empty()).len(), 0);
+    let score = ProposedMatch::new(&[2], &[]).unwrap().score(
+        MatchObjective {
+            wait: 1.0,
+            ..MatchObjective::default()
+        },
+        &three,
+        &Roster::new(),
+        60_000_000_000,
+    );
+    assert_eq!(score, Ok(-1.0));
+}

@@ -1,0 +1,572 @@
+/*
+ * yilgashe.h: the matchmaking hall, for C99 and C++ programs that link libcapi.a.
+ *
+ * Guests book at the counter or by phone and wait with a rating, friends and a role; searches and rounds form two teams for each
+ * table. Every function here is proved to meet its definition for every input, also for input that it refuses.
+ *
+ *     cc -I include program.c target/staticlib/libcapi.a
+ *
+ * The archive is for x86-64 Linux and needs nothing of the C library but memcpy, memmove and memset.
+ *
+ * STATE. The library keeps none. A queue or a hall is a struct that the caller owns: it goes in by value, and the answer carries
+ * the new one. Nothing is allocated and nothing is to be freed, and any number of threads may call at once. A refused call hands
+ * the queue or the hall back as it came, save for what a hall notes with a key.
+ *
+ * SLICES. A list crosses as a pointer and the number of its elements, in this order: `const uint64_t *ids, size_t ids_len`. The
+ * proofs take for granted, and the caller sees to it, that
+ *   - the pointer is not null and is aligned for its type, even where the number is 0;
+ *   - that many elements stand there, and no other thread writes them during the call;
+ *   - a list without const (a sheet) overlaps no other list of the call.
+ * A null pointer, or a number that is larger than the list, is undefined behaviour and not a refusal.
+ *
+ * STRUCTS. Zero a struct before you fill it (`yilgashe_constraints rules = {0};`, in C++ `= {};`): all of it is copied across, and a
+ * bool must hold 0 or 1 even where nothing reads it. Elements past a struct's `len` or `count` mean nothing. A `len` over the
+ * array's size is no error of the caller's: the call answers YILGASHE_OVER_LIMIT.
+ *
+ * STACK. A hall is 27,152 bytes, and calls pass it by value. Leave a call 512 KB of stack.
+ */
+#ifndef YILGASHE_H
+#define YILGASHE_H
+
+#include <stdbool.h>
+#include <stddef.h>
+#include <stdint.h>
+
+#ifdef __cplusplus
+extern "C" {
+#endif
+
+/* ---- Refusals ---------------------------------------------------------------------------------------------------------------- */
+
+/*
+ * What a call says no with. A field `refusal`, and a key record's `answer`, holds one of these numbers.
+ *
+ * Searches, generators and rounds check 1, 2, 3, 4, 12, 6, 5 in this order, but the exhaustive generator checks 3 after 6.
+ * Scores, constraints and selections check 1, 2, 4, 5. The queue's functions and times refuse with 1 and 4 alone. A booking checks
+ * 1, 7, 8, 4, 9, 10; a withdrawal 1, 7, 8, 11. A call checks just what it is given.
+ */
+enum yilgashe_refusal {
+    YILGASHE_ACCEPTED = 0,
+    /* over limit: a list is longer than the limits below allow, or a soft objective's kind is over 2 */
+    YILGASHE_OVER_LIMIT = 1,
+    /* bad roster: columns of unequal length, a guest in two rows, a region code over 4 in a row or a region pair */
+    YILGASHE_BAD_ROSTER = 2,
+    /* short sheet: fewer than 64 places for guests or for qualities; for the exhaustive generator, fewer than the listing fills */
+    YILGASHE_SHORT_SHEET = 3,
+    /* clock: a clock or a joined time above YILGASHE_MAX_TIME */
+    YILGASHE_CLOCK = 4,
+    /* unranked: two or more scores or ratings are to be ranked, and one is NaN */
+    YILGASHE_UNRANKED = 5,
+    /* too wide: exhaustive listing or full round with more than 20 entries */
+    YILGASHE_TOO_WIDE = 6,
+    /* key clash: the key is noted for another kind of call or another guest */
+    YILGASHE_KEY_CLASH = 7,
+    /* book full: an unknown key, and 1,024 keys are noted */
+    YILGASHE_BOOK_FULL = 8,
+    /* already waiting: a booking for a waiting guest */
+    YILGASHE_ALREADY_WAITING = 9,
+    /* hall full: 64 are waiting */
+    YILGASHE_HALL_FULL = 10,
+    /* not waiting: a withdrawal of a guest who isn't waiting */
+    YILGASHE_NOT_WAITING = 11,
+    /* no seats: the nearest generator with two teams of 0 */
+    YILGASHE_NO_SEATS = 12
+};
+
+/* A refusal's word, "accepted" for 0, "?" for a number that is none. */
+static inline const char *yilgashe_refusal_word(unsigned refusal)
+{
+    static const char *const words[] = {
+        "accepted",  "over limit", "bad roster",      "short sheet", "clock",       "unranked", "too wide",
+        "key clash", "book full",  "already waiting", "hall full",   "not waiting", "no seats",
+    };
+    return refusal < sizeof words / sizeof *words ? words[refusal] : "?";
+}
+
+/* ---- Limits ------------------------------------------------------------------------------------------------------------------ */
+
+enum yilgashe_limit {
+    YILGASHE_MAX_WAITING = 64,     /* entries of a queue */
+    YILGASHE_MAX_KEYS = 1024,      /* keys that a hall notes; none is ever dropped */
+    YILGASHE_MAX_ROSTER = 128,     /* rows of a roster column */
+    YILGASHE_MAX_TEAM = 8,         /* guests of a team */
+    YILGASHE_MAX_WIDTH = 32,       /* a beam's width */
+    YILGASHE_MAX_REQUIREMENTS = 8, /* role requirements of a call */
+    YILGASHE_MAX_PAIRS = 16,       /* region pairs of a call */
+    YILGASHE_MAX_OBJECTIVES = 8,   /* soft objectives of a call */
+    YILGASHE_MAX_CANDIDATES = 64,  /* candidates of a selection */
+    YILGASHE_MAX_LISTED = 20,      /* entries of an exhaustive listing or a full round */
+    YILGASHE_MIN_SHEET = 64        /* places of each sheet of a round, a search or the nearest generator */
+};
+
+/* 2^53, the last time in nanoseconds that is taken. */
+#define YILGASHE_MAX_TIME UINT64_C(9007199254740992)
+
+/* ---- Queue and times --------------------------------------------------------------------------------------------------------- */
+
+/* Who waits. Times are in nanoseconds; party 0 and role 0 mean none. Guest 0 is a guest like others. */
+typedef struct yilgashe_queue_entry {
+    uint64_t player;
+    uint64_t joined;
+    double rating;
+    uint64_t party;
+    uint32_t role;
+} yilgashe_queue_entry;
+
+/* The first `len` entries wait, in this order. All zeros is the empty queue. */
+typedef struct yilgashe_queue {
+    yilgashe_queue_entry entries[64];
+    size_t len;
+} yilgashe_queue;
+
+typedef struct yilgashe_enqueued {
+    yilgashe_queue queue;
+    uint8_t refusal;
+} yilgashe_enqueued;
+
+/* The entry is blank unless found. */
+typedef struct yilgashe_removed {
+    yilgashe_queue queue;
+    yilgashe_queue_entry entry;
+    bool found;
+    uint8_t refusal;
+} yilgashe_removed;
+
+typedef struct yilgashe_batch {
+    yilgashe_queue kept;
+    yilgashe_queue removed;
+    uint8_t refusal;
+} yilgashe_batch;
+
+/* 0 ns unless found. */
+typedef struct yilgashe_wait {
+    uint64_t nanos;
+    bool found;
+    uint8_t refusal;
+} yilgashe_wait;
+
+/* 0 ns where it is refused. */
+typedef struct yilgashe_duration {
+    uint64_t nanos;
+    uint8_t refusal;
+} yilgashe_duration;
+
+/* 0.0 where it is refused. */
+typedef struct yilgashe_seconds {
+    double seconds;
+    uint8_t refusal;
+} yilgashe_seconds;
+
+yilgashe_queue yilgashe_queue_empty(void);
+
+/* Appends. */
+yilgashe_enqueued yilgashe_queue_enqueue(yilgashe_queue queue, yilgashe_queue_entry entry);
+
+/* Takes the guest's first entry. */
+yilgashe_removed yilgashe_queue_remove(yilgashe_queue queue, uint64_t player);
+
+/* Takes every entry of the named guests, and keeps the order in both results. */
+yilgashe_batch yilgashe_queue_remove_batch(yilgashe_queue queue, const uint64_t *players, size_t players_len);
+
+/* How long the guest's first entry has waited: the clock minus the joined time, 0 if negative. */
+yilgashe_wait yilgashe_queue_waiting_time(yilgashe_queue queue, uint64_t player, uint64_t clock);
+
+/* The later time minus the earlier, 0 if negative. */
+yilgashe_duration yilgashe_time_duration_since(uint64_t later, uint64_t earlier);
+
+/* The time divided by 1000000000.0, rounded once. */
+yilgashe_seconds yilgashe_time_as_secs_f64(uint64_t nanos);
+
+/* ---- Roster ------------------------------------------------------------------------------------------------------------------ */
+
+/*
+ * The roster is the lounge's list of guests, one row a guest, given as columns of equal length: ids, ratings, rating deviations,
+ * parties, roles, regions. A call takes the columns that it reads. A guest without a row has no observation.
+ */
+enum yilgashe_region {
+    YILGASHE_NA = 0,
+    YILGASHE_EU = 1,
+    YILGASHE_ASIA = 2,
+    YILGASHE_OTHER = 3,
+    YILGASHE_NO_RECORD = 4 /* no player record: constraints on regions pass over this guest */
+};
+
+/* The refusal that the six columns would meet, or 0. */
+uint8_t yilgashe_roster_check(const uint64_t *ids, size_t ids_len, const double *ratings, size_t ratings_len,
+                              const double *deviations, size_t deviations_len, const uint64_t *parties, size_t parties_len,
+                              const uint32_t *roles, size_t roles_len, const uint8_t *regions, size_t regions_len);
+
+/* ---- Quality and scores ------------------------------------------------------------------------------------------------------ */
+
+/* The first `len` guests. */
+typedef struct yilgashe_team {
+    uint64_t players[8];
+    size_t len;
+} yilgashe_team;
+
+typedef struct yilgashe_proposed_match {
+    yilgashe_team a;
+    yilgashe_team b;
+} yilgashe_proposed_match;
+
+/* The weights of a match's score. */
+typedef struct yilgashe_match_objective {
+    double quality;
+    double wait;
+    double ping;
+    double uncertainty;
+} yilgashe_match_objective;
+
+/* 0.0 where it is refused. */
+typedef struct yilgashe_scored {
+    double value;
+    uint8_t refusal;
+} yilgashe_scored;
+
+enum yilgashe_soft_kind {
+    YILGASHE_SKILL = 0,   /* the match's quality */
+    YILGASHE_LATENCY = 1, /* 1.0 minus the smaller of the average rating / 200.0 and 1.0, over both teams */
+    YILGASHE_WAIT = 2     /* 0.5 */
+};
+
+/* The first `len` soft objectives: a kind, and its weight at the same place. */
+typedef struct yilgashe_soft_objectives {
+    uint8_t kinds[8];
+    double weights[8];
+    size_t len;
+} yilgashe_soft_objectives;
+
+typedef struct yilgashe_match_objective_vector {
+    double skill;
+    double role;
+    double latency;
+    double party;
+    double wait;
+    double utilization;
+} yilgashe_match_objective_vector;
+
+/* A weight for each coordinate. */
+typedef struct yilgashe_objective_weights {
+    double skill;
+    double role;
+    double latency;
+    double party;
+    double wait;
+    double utilization;
+} yilgashe_objective_weights;
+
+/* 1.0 minus the smaller of 1.0 and the difference of the teams' average ratings / 400.0; within 0.0 to 1.0. */
+yilgashe_scored yilgashe_match_quality(yilgashe_proposed_match proposed, const uint64_t *ids, size_t ids_len, const double *ratings,
+                                       size_t ratings_len);
+
+/*
+ * The quality, less the longest wait in minutes, the ping (0.0) and the average deviation / 350.0, each times its weight. The wait
+ * is read from a guest's first entry in the queue.
+ */
+yilgashe_scored yilgashe_match_score(yilgashe_match_objective objective, yilgashe_proposed_match proposed, yilgashe_queue queue,
+                                     const uint64_t *ids, size_t ids_len, const double *ratings, size_t ratings_len,
+                                     const double *deviations, size_t deviations_len, uint64_t clock);
+
+/* A soft objective's value for the match, without its weight. */
+yilgashe_scored yilgashe_soft_value(uint8_t kind, double weight, yilgashe_proposed_match proposed, const uint64_t *ids,
+                                    size_t ids_len, const double *ratings, size_t ratings_len);
+
+/* The sum of weight times value, in the list's order. */
+yilgashe_scored yilgashe_soft_score(yilgashe_soft_objectives objectives, yilgashe_proposed_match proposed, const uint64_t *ids,
+                                    size_t ids_len, const double *ratings, size_t ratings_len);
+
+/* The weighted sum of the coordinates, the wait's share taken off. */
+double yilgashe_vector_scalarize(yilgashe_match_objective_vector vector, yilgashe_objective_weights weights);
+
+/* Is the vector nowhere worse than the other, and somewhere better? A lower wait is better; NaN is neither better nor worse. */
+bool yilgashe_vector_dominates(yilgashe_match_objective_vector vector, yilgashe_match_objective_vector other);
+
+/* All zeros. */
+yilgashe_match_objective_vector yilgashe_vector_default(void);
+
+/* 1.0, 0.5, 0.3, 0.2, 0.8 and 0.0. */
+yilgashe_objective_weights yilgashe_weights_default(void);
+
+/* ---- Constraints and policy -------------------------------------------------------------------------------------------------- */
+
+/* How many of a role there must be and, where it is bounded, may be. A requirement for role 0 counts nobody. */
+typedef struct yilgashe_role_requirement {
+    uint32_t role;
+    size_t least;
+    bool bounded;
+    size_t most;
+} yilgashe_role_requirement;
+
+/* The first `len` requirements. */
+typedef struct yilgashe_role_requirements {
+    yilgashe_role_requirement items[8];
+    size_t len;
+} yilgashe_role_requirements;
+
+/* Two regions that may play each other, either way round. */
+typedef struct yilgashe_region_pair {
+    uint8_t first;
+    uint8_t second;
+} yilgashe_region_pair;
+
+/* The first `count` pairs are allowed. */
+typedef struct yilgashe_region_constraint {
+    yilgashe_region_pair pairs[16];
+    size_t count;
+} yilgashe_region_constraint;
+
+typedef struct yilgashe_team_size_constraint {
+    size_t a;
+    size_t b;
+} yilgashe_team_size_constraint;
+
+/* Which constraints a call brings. */
+typedef struct yilgashe_brought {
+    bool sizes;
+    bool roles;
+    bool parties;
+    bool latency;
+    bool regions;
+} yilgashe_brought;
+
+/* What is not brought is not read. All zeros brings none. */
+typedef struct yilgashe_constraints {
+    yilgashe_brought brought;
+    yilgashe_team_size_constraint sizes;
+    yilgashe_role_requirements roles;
+    yilgashe_region_constraint regions;
+} yilgashe_constraints;
+
+/* False where it is refused. */
+typedef struct yilgashe_verdict {
+    bool satisfied;
+    uint8_t refusal;
+} yilgashe_verdict;
+
+enum yilgashe_fault {
+    YILGASHE_VALID = 0,
+    YILGASHE_WRONG_SIZE = 1,
+    YILGASHE_TOO_FEW = 2, /* of the requirement at the place */
+    YILGASHE_TOO_MANY = 3 /* likewise */
+};
+
+/* The first fault of a team: size, then for each requirement the minimum, then the maximum. */
+typedef struct yilgashe_validity {
+    size_t place;
+    uint8_t fault;
+    uint8_t refusal;
+} yilgashe_validity;
+
+/* Are the teams of just these sizes? */
+yilgashe_verdict yilgashe_sizes_satisfied(yilgashe_team_size_constraint sizes, yilgashe_proposed_match proposed);
+
+/* Are the requirements met by the roster's roles, counted over both teams? */
+yilgashe_verdict yilgashe_roles_satisfied(yilgashe_role_requirements requirements, yilgashe_proposed_match proposed,
+                                          const uint64_t *ids, size_t ids_len, const uint32_t *roles, size_t roles_len);
+
+/* Is every roster row of a seated guest's party seated? */
+yilgashe_verdict yilgashe_parties_satisfied(yilgashe_proposed_match proposed, const uint64_t *ids, size_t ids_len,
+                                            const uint64_t *parties, size_t parties_len);
+
+/* Is every rostered rating above 0.0? */
+yilgashe_verdict yilgashe_latency_satisfied(yilgashe_proposed_match proposed, const uint64_t *ids, size_t ids_len,
+                                            const double *ratings, size_t ratings_len);
+
+/* Is each recorded guest of team A with each of team B an allowed pair? */
+yilgashe_verdict yilgashe_regions_satisfied(yilgashe_region_constraint allowed, yilgashe_proposed_match proposed,
+                                            const uint64_t *ids, size_t ids_len, const uint8_t *regions, size_t regions_len);
+
+/* All constraints that are brought. */
+yilgashe_verdict yilgashe_constraints_satisfied(yilgashe_constraints constraints, yilgashe_proposed_match proposed,
+                                                const uint64_t *ids, size_t ids_len, const double *ratings, size_t ratings_len,
+                                                const uint64_t *parties, size_t parties_len, const uint32_t *roles,
+                                                size_t roles_len, const uint8_t *regions, size_t regions_len);
+
+/* One team's size and roles. */
+yilgashe_validity yilgashe_team_validate(size_t size, yilgashe_role_requirements requirements, yilgashe_team team,
+                                         const uint64_t *ids, size_t ids_len, const uint32_t *roles, size_t roles_len);
+
+/* The soft objectives' score, minus infinity where a constraint is violated. */
+yilgashe_scored yilgashe_policy_score(yilgashe_constraints constraints, yilgashe_soft_objectives objectives,
+                                      yilgashe_proposed_match proposed, const uint64_t *ids, size_t ids_len, const double *ratings,
+                                      size_t ratings_len, const uint64_t *parties, size_t parties_len, const uint32_t *roles,
+                                      size_t roles_len, const uint8_t *regions, size_t regions_len);
+
+/* ---- Selections -------------------------------------------------------------------------------------------------------------- */
+
+/* The first `len` candidates. */
+typedef struct yilgashe_candidates {
+    yilgashe_proposed_match items[64];
+    size_t len;
+} yilgashe_candidates;
+
+/* The first `len` places of the given list, from 0. */
+typedef struct yilgashe_selected {
+    size_t places[64];
+    size_t len;
+    uint8_t refusal;
+} yilgashe_selected;
+
+/* The best by score, the last of equal best. */
+yilgashe_selected yilgashe_select_greedy(yilgashe_soft_objectives objectives, yilgashe_candidates candidates, const uint64_t *ids,
+                                         size_t ids_len, const double *ratings, size_t ratings_len);
+
+/* The first whose score is at or above the minimum. */
+yilgashe_selected yilgashe_select_threshold(double minimum, yilgashe_soft_objectives objectives, yilgashe_candidates candidates,
+                                            const uint64_t *ids, size_t ids_len, const double *ratings, size_t ratings_len);
+
+/* Per objective, without its weight, those within 0.001 of the best, until one is left. */
+yilgashe_selected yilgashe_select_lexicographic(yilgashe_soft_objectives objectives, yilgashe_candidates candidates,
+                                                const uint64_t *ids, size_t ids_len, const double *ratings, size_t ratings_len);
+
+/* All of them, the best first, equal ones in the list's order; the score is the skill weight times the quality. */
+yilgashe_selected yilgashe_select_weighted(yilgashe_objective_weights weights, yilgashe_candidates candidates, const uint64_t *ids,
+                                           size_t ids_len, const double *ratings, size_t ratings_len);
+
+/* ---- Searches and generators ------------------------------------------------------------------------------------------------- */
+
+/*
+ * Matches are written to two sheets of the caller's: `players` match by match, team A then team B, and `qualities`, one a match.
+ * Match m of teams of a and b guests begins at players[m * (a + b)]. What stands behind the last match is left as it was, and so
+ * are both sheets where the call is refused. 64 places each are enough for every search, round and nearest listing.
+ */
+
+/* The sizes of the two teams, each 0 to 8. */
+typedef struct yilgashe_team_composition {
+    size_t a;
+    size_t b;
+} yilgashe_team_composition;
+
+/* How many partial matches a beam search keeps, 0 to 32. */
+typedef struct yilgashe_beam_search {
+    size_t width;
+} yilgashe_beam_search;
+
+/* At most this many matches. */
+typedef struct yilgashe_greedy_nearest_generator {
+    size_t max;
+} yilgashe_greedy_nearest_generator;
+
+/* How many matches were written, 0 where it is refused. */
+typedef struct yilgashe_formed {
+    size_t count;
+    uint8_t refusal;
+} yilgashe_formed;
+
+/* In queue order, each guest draws the nearest ratings to their table; the qualities are those of the matches. */
+yilgashe_formed yilgashe_search_greedy(yilgashe_queue queue, yilgashe_team_composition sizes, const uint64_t *ids, size_t ids_len,
+                                       const double *ratings, size_t ratings_len, uint64_t *players, size_t players_len,
+                                       double *qualities, size_t qualities_len);
+
+/* In queue order, each guest's table grows by the partial matches of best score. */
+yilgashe_formed yilgashe_search_beam(yilgashe_beam_search search, yilgashe_queue queue, yilgashe_team_composition sizes,
+                                     yilgashe_match_objective objective, const uint64_t *ids, size_t ids_len, const double *ratings,
+                                     size_t ratings_len, const double *deviations, size_t deviations_len, uint64_t clock,
+                                     uint64_t *players, size_t players_len, double *qualities, size_t qualities_len);
+
+/* Neighbours by rating (1000.0 where it is missing), in chunks; quality 0.0. */
+yilgashe_formed yilgashe_generate_nearest(yilgashe_greedy_nearest_generator generator, yilgashe_queue queue,
+                                          yilgashe_team_composition sizes, const uint64_t *ids, size_t ids_len,
+                                          const double *ratings, size_t ratings_len, uint64_t *players, size_t players_len,
+                                          double *qualities, size_t qualities_len);
+
+/* Every choice of a + b entries in ascending lexicographic order, its first a for team A; quality 0.0. At most 184,756 matches. */
+yilgashe_formed yilgashe_generate_exhaustive(yilgashe_queue queue, yilgashe_team_composition sizes, uint64_t *players,
+                                             size_t players_len, double *qualities, size_t qualities_len);
+
+/* The teams mean something only where a match was found. Nothing is tried where it is refused. */
+typedef struct yilgashe_chosen {
+    yilgashe_proposed_match teams;
+    uint64_t tried;
+    bool found;
+    uint8_t refusal;
+} yilgashe_chosen;
+
+/* The best by the soft objectives among all choices that meet the constraints, the last of equal best, and how many were tried. */
+yilgashe_chosen yilgashe_best_choice(yilgashe_queue queue, yilgashe_team_composition sizes, yilgashe_constraints constraints,
+                                     yilgashe_soft_objectives objectives, const uint64_t *ids, size_t ids_len,
+                                     const double *ratings, size_t ratings_len, const uint64_t *parties, size_t parties_len,
+                                     const uint32_t *roles, size_t roles_len, const uint8_t *regions, size_t regions_len);
+
+/* ---- The hall ---------------------------------------------------------------------------------------------------------------- */
+
+enum yilgashe_kind { YILGASHE_BOOKING = 0, YILGASHE_WITHDRAWAL = 1 };
+
+/* A keyed call that was answered: its kind, and the refusal that it got. */
+typedef struct yilgashe_key_record {
+    uint64_t key;
+    uint64_t player;
+    uint8_t kind;
+    uint8_t answer;
+} yilgashe_key_record;
+
+/* The first `len` records, in the order of coming. */
+typedef struct yilgashe_key_log {
+    yilgashe_key_record records[1024];
+    size_t len;
+} yilgashe_key_log;
+
+/* Who waits, and which keys are noted. All zeros is the empty hall. */
+typedef struct yilgashe_hall {
+    yilgashe_queue waiting;
+    yilgashe_key_log log;
+} yilgashe_hall;
+
+/* What a booking brings beside its key: the entry that it makes. */
+typedef struct yilgashe_booking {
+    uint64_t player;
+    uint64_t joined;
+    double rating;
+    uint64_t party;
+    uint32_t role;
+} yilgashe_booking;
+
+/* The hall as a keyed call leaves it, and its answer. */
+typedef struct yilgashe_keyed {
+    yilgashe_hall hall;
+    uint8_t refusal;
+} yilgashe_keyed;
+
+/* The hall as a round leaves it, how many matches stand on the sheets, and how many choices a full round tried. */
+typedef struct yilgashe_rounded {
+    yilgashe_hall hall;
+    size_t count;
+    uint64_t tried;
+    uint8_t refusal;
+} yilgashe_rounded;
+
+/* Nobody waits, and no key is noted. */
+yilgashe_hall yilgashe_hall_empty(void);
+
+/*
+ * A booking or a withdrawal under a key of the caller's choice. A call that is sent again with its key gets the answer that it got
+ * and changes nothing. Refusals 4, 9, 10 and 11 are noted with the key, so a corrected call needs a new key; 1, 7 and 8 change
+ * nothing.
+ */
+yilgashe_keyed yilgashe_hall_book(yilgashe_hall hall, uint64_t key, yilgashe_booking booking);
+yilgashe_keyed yilgashe_hall_withdraw(yilgashe_hall hall, uint64_t key, uint64_t player);
+
+/* The greedy search over those who wait; the seated leave. */
+yilgashe_rounded yilgashe_hall_greedy_round(yilgashe_hall hall, yilgashe_team_composition sizes, uint64_t clock,
+                                            const uint64_t *ids, size_t ids_len, const double *ratings, size_t ratings_len,
+                                            uint64_t *players, size_t players_len, double *qualities, size_t qualities_len);
+
+/* The beam search over those who wait; the seated leave. */
+yilgashe_rounded yilgashe_hall_beam_round(yilgashe_hall hall, yilgashe_beam_search search, yilgashe_team_composition sizes,
+                                          yilgashe_match_objective objective, uint64_t clock, const uint64_t *ids, size_t ids_len,
+                                          const double *ratings, size_t ratings_len, const double *deviations,
+                                          size_t deviations_len, uint64_t *players, size_t players_len, double *qualities,
+                                          size_t qualities_len);
+
+/* The best choice among those who wait, if any passes, with quality 0.0; the seated leave. */
+yilgashe_rounded yilgashe_hall_full_round(yilgashe_hall hall, yilgashe_team_composition sizes, yilgashe_constraints constraints,
+                                          yilgashe_soft_objectives objectives, uint64_t clock, const uint64_t *ids, size_t ids_len,
+                                          const double *ratings, size_t ratings_len, const uint64_t *parties, size_t parties_len,
+                                          const uint32_t *roles, size_t roles_len, const uint8_t *regions, size_t regions_len,
+                                          uint64_t *players, size_t players_len, double *qualities, size_t qualities_len);
+
+#ifdef __cplusplus
+}
+#endif
+
+#endif

@@ -1,0 +1,82 @@
+//! A booking whose key is not among many noted ones. The Rust has no hall, so the model of the comparison stands in its place.
+
+use crate::call::{Call, Row};
+use compare::model::hall;
+use compare::rng::Rng;
+use std::cell::RefCell;
+use yilgashe_sys::{self as library, Booking, Hall, Keyed, QueueEntry};
+
+const CASES: usize = 16;
+/// One more fits.
+const NOTED: u64 = 1023;
+/// Of the noted bookings so many are accepted, and the rest come late.
+const WAITING: u64 = 32;
+
+pub fn row(seed: u64) -> Row {
+    let cases =
+        (0..CASES as u64).map(|case| Booked::drawn(&mut Rng::for_case(seed, "booking", case)));
+    Row::of(
+        format!("booking, {NOTED} keys noted (beside the model)"),
+        cases.collect(),
+    )
+}
+
+struct Booked {
+    key: u64,
+    entry: QueueEntry,
+    model: RefCell<hall::Hall>,
+    hall: Hall,
+}
+
+impl Booked {
+    fn drawn(rng: &mut Rng) -> Self {
+        let mut model = hall::Hall::default();
+        let mut hall = library::hall_empty();
+        let first = rng.below(1 << 20) as u64;
+        for number in 0..NOTED {
+            let entry = QueueEntry {
+                player: number,
+                joined: if number < WAITING { number } else { u64::MAX },
+                rating: 1000.0 + number as f64,
+                ..QueueEntry::default()
+            };
+            model.book(first + number, entry);
+            hall = library::hall_book(hall, first + number, Booking::of(&entry)).hall;
+        }
+        Booked {
+            key: first + NOTED,
+            entry: QueueEntry {
+                player: NOTED,
+                ..QueueEntry::default()
+            },
+            model: RefCell::new(model),
+            hall,
+        }
+    }
+}
+
+impl Call for Booked {
+    type Rust = u8;
+    type Library = Keyed;
+
+    /// The model's booking is undone, so that each call finds the same hall: two lengths that shrink by one.
+    fn rust(&self) -> u8 {
+        let mut model = self.model.borrow_mut();
+        let answer = model.book(self.key, self.entry);
+        model.notes.pop();
+        model.waiting.pop();
+        answer
+    }
+
+    fn library(&mut self) -> Keyed {
+        library::hall_book(self.hall, self.key, Booking::of(&self.entry))
+    }
+
+    fn agree(&mut self) -> String {
+        let after = self.library();
+        assert_eq!((self.rust(), after.refusal), (0, 0));
+        assert_eq!(after.hall.log.noted().len() as u64, NOTED + 1);
+        assert_eq!(after.hall.waiting.len as u64, WAITING + 1);
+        "accepted".into()
+    }
+}

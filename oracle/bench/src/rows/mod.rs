@@ -1,0 +1,129 @@
+//! The calls that are timed, a file for each kind, and the rows of the first table.
+
+pub mod beam;
+pub mod booking;
+pub mod greedy;
+pub mod nearest;
+pub mod round;
+pub mod seated;
+
+use crate::call::Row;
+use compare::data::Sheets;
+use compare::same::Same;
+use compare::translate::laid_on;
+use matchlab_matchmaking::matchmaker::ProposedMatch;
+use std::fmt::{Display, Formatter, Result};
+use yilgashe_sys::{Formed, TeamComposition};
+
+/// The first table, each row made when it is its turn.
+pub const ROWS: &[fn(u64) -> Row] = &[
+    |seed| greedy::row(seed, Scene::of(64, (5, 5))).target(5.0),
+    |seed| beam::row(seed, Scene::of(64, (5, 5)), 32).target(100.0),
+    |seed| beam::row(seed, Scene::of(64, (8, 8)), 32).target(100.0),
+    |seed| round::row(seed, Scene::of(20, (5, 5))).target(30.0),
+    |seed| nearest::row(seed, Scene::of(64, (5, 5))).target(2.0),
+    |seed| seated::quality(seed, Scene::of(64, (5, 5))).target(1.0),
+    |seed| seated::score(seed, Scene::of(64, (5, 5))).target(1.0),
+    |seed| seated::quality(seed, Scene::of(64, (5, 5)).unsorted()),
+    |seed| seated::score(seed, Scene::of(64, (5, 5)).unsorted()),
+    booking::row,
+];
+
+/// How many wait, the sizes of the teams, and whether the roster's rows ascend.
+#[derive(Clone, Copy)]
+pub struct Scene {
+    pub entries: usize,
+    pub a: usize,
+    pub b: usize,
+    pub ascending: bool,
+}
+
+impl Scene {
+    pub const fn of(entries: usize, (a, b): (usize, usize)) -> Self {
+        Scene {
+            entries,
+            a,
+            b,
+            ascending: true,
+        }
+    }
+
+    /// With its rows in any order.
+    pub const fn unsorted(self) -> Self {
+        Scene {
+            ascending: false,
+            ..self
+        }
+    }
+
+    pub fn sizes(&self) -> TeamComposition {
+        TeamComposition {
+            a: self.a,
+            b: self.b,
+        }
+    }
+}
+
+impl Display for Scene {
+    fn fmt(&self, f: &mut Formatter<'_>) -> Result {
+        write!(f, "{} entries, {}+{}", self.entries, self.a, self.b)?;
+        match self.ascending {
+            true => Ok(()),
+            false => write!(f, ", rows in any order"),
+        }
+    }
+}
+
+/// Fails unless the library has laid the Rust's matches on its sheets; says how many.
+fn agreed(matches: &[ProposedMatch], before: &Sheets, formed: Formed, after: &Sheets) -> String {
+    let (count, laid) = laid_on(before, matches);
+    assert_eq!((formed.refusal, formed.count), (0, count));
+    assert!(laid.same(after), "other matches than the Rust's");
+    format!("{count} formed")
+}
+
+#[cfg(test)]
+mod tests {
+    use super::*;
+    use crate::crowd::sheets;
+    use crate::stack::depth;
+
+    /// Small enough for any thread.
+    const LIMIT: usize = 128 << 10;
+
+    /// Making a row holds both sides' answers against each other. Few entries keep the Rust's beam short, and are as deep for the
+    /// library.
+    #[test]
+    fn both_sides_agree_and_the_stack_stays_small() {
+        let rows = [
+            greedy::row(1, Scene::of(64, (5, 5))),
+            beam::row(1, Scene::of(18, (8, 8)), 32),
+            round::row(1, Scene::of(20, (8, 8))),
+            nearest::row(1, Scene::of(64, (5, 5))),
+            seated::quality(1, Scene::of(64, (5, 5))),
+            seated::score(1, Scene::of(64, (5, 5)).unsorted()),
+            booking::row(1),
+        ];
+        for mut row in rows {
+            let depth = depth(|| {
+                row.sides.library();
+            });
+            assert!(depth < LIMIT, "{}: {depth} bytes", row.name);
+        }
+    }
+
+    /// No match of the Rust's, and a sheet that was written to.
+    #[test]
+    #[should_panic(expected = "other matches")]
+    fn another_sheet_is_no_agreement() {
+        let (formed, mut after) = (
+            Formed {
+                count: 0,
+                refusal: 0,
+            },
+            sheets(),
+        );
+        after.players[0] = 1;
+        agreed(&[], &sheets(), formed, &after);
+    }
+}

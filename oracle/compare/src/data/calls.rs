@@ -1,0 +1,83 @@
+//! The calls of the hall, and what they answer.
+
+use super::{Columns, Rows, Sheets};
+use yilgashe_sys::{Constraints, MatchObjective, QueueEntry, SoftObjectives, TeamComposition};
+
+#[derive(Clone, Debug)]
+pub enum Call {
+    Book { key: u64, entry: QueueEntry },
+    Withdraw { key: u64, player: u64 },
+    Round(Box<Round>),
+}
+
+/// What every round brings, and what its search brings.
+#[derive(Clone, Debug)]
+pub struct Round {
+    pub search: Search,
+    pub sizes: TeamComposition,
+    pub clock: u64,
+    pub sheets: Sheets,
+}
+
+#[allow(clippy::large_enum_variant)] // a round stands in a box of its own
+#[derive(Clone, Debug)]
+pub enum Search {
+    Greedy(Columns),
+    Beam {
+        width: usize,
+        objective: MatchObjective,
+        columns: Columns,
+    },
+    Full {
+        constraints: Constraints,
+        objectives: SoftObjectives,
+        rows: Rows,
+    },
+}
+
+/// What a call gives besides the hall, with its sheets as it leaves them. A keyed call has no matches and no sheets.
+#[derive(Clone, Debug, Default)]
+pub struct Answer {
+    pub refusal: u8,
+    pub count: usize,
+    pub tried: u64,
+    pub sheets: Sheets,
+}
+
+impl Answer {
+    /// Of a booking or a withdrawal.
+    pub fn keyed(refusal: u8) -> Self {
+        Answer {
+            refusal,
+            ..Answer::default()
+        }
+    }
+
+    /// Of a refused call: its sheets are as they came.
+    pub fn refused(call: &Call, refusal: u8) -> Self {
+        let sheets = match call {
+            Call::Round(round) => round.sheets.clone(),
+            _ => Sheets::default(),
+        };
+        Answer {
+            refusal,
+            sheets,
+            ..Answer::default()
+        }
+    }
+}
+
+impl Call {
+    /// What it is, in the words of the report.
+    pub fn name(&self) -> &'static str {
+        match self {
+            Call::Book { .. } => "book",
+            Call::Withdraw { .. } => "withdraw",
+            Call::Round(round) => match round.search {
+                Search::Greedy(_) => "greedy_round",
+                Search::Beam { .. } => "beam_round",
+                Search::Full { .. } => "full_round",
+            },
+        }
+    }
+}

@@ -1,0 +1,417 @@
+//! Lists of calls from an empty hall, and single calls on halls of any kind.
+
+use super::choices::{choice_among, latency};
+use super::searches::{settle, some_seats, width};
+use super::{
+    LONG, ODD_IDS, Ratings, Scale, Times, clock, entry, joined, late_time, match_objective, party,
+    player, queue, rating, ratings, role, searched_columns, sheets, team_sizes, times,
+};
+use crate::data::{Call, Round, Search};
+use crate::model::hall::{self, NOTE_LIMIT};
+use crate::model::{
+    self, BAD_ROSTER, LISTED_LIMIT, OVER_LIMIT, QUEUE_LIMIT, TEAM_LIMIT, WIDTH_LIMIT, ways,
+};
+use crate::rng::Rng;
+use std::array::from_fn;
+use yilgashe_sys::{Hall, KeyLog, KeyRecord, Queue, QueueEntry, TeamComposition};
+
+/// How a list goes.
+#[derive(Clone, Copy, Debug)]
+enum Mood {
+    /// Few guests come, go and play.
+    Plain,
+    /// More come than the hall holds.
+    Crowd,
+    /// More keys come than the book holds.
+    Long,
+}
+
+/// What the next call of a list is.
+#[derive(Clone, Copy, Debug)]
+enum Next {
+    Book,
+    Withdraw,
+    Resend,
+    Clash,
+    Round,
+}
+
+/// A list while it is drawn: the hall as the calls so far leave it, and what calls are drawn from.
+struct Evening {
+    mood: Mood,
+    hall: hall::Hall,
+    /// The bookings and withdrawals so far.
+    keyed: Vec<Call>,
+    fresh: u64,
+    guests: Vec<u64>,
+    ratings: Ratings,
+    times: Times,
+}
+
+/// By its number, so that every sort of list comes early.
+fn mood(number: u64) -> Mood {
+    match number % 16 {
+        3 => Mood::Long,
+        1 | 6 | 11 => Mood::Crowd,
+        _ => Mood::Plain,
+    }
+}
+
+/// From an empty hall.
+pub fn list(rng: &mut Rng, number: u64) -> Vec<Call> {
+    let mood = mood(number);
+    let calls = match mood {
+        Mood::Plain => rng.between(50, 300),
+        Mood::Crowd => rng.between(150, 300),
+        Mood::Long => rng.between(1300, 1400),
+    };
+    let mut evening = Evening::open(rng, mood);
+    (0..calls).map(|_| evening.next(rng)).collect()
+}
+
+impl Evening {
+    fn open(rng: &mut Rng, mood: Mood) -> Self {
+        let size = match mood {
+            Mood::Plain => rng.pick(&[3, 6, 12, 24, 40]),
+            Mood::Crowd => 100,
+            Mood::Long => rng.pick(&[8, 30]),
+        };
+        let start = u64::from(rng.one_in(4));
+        let mut guests: Vec<u64> = (start..start + size).collect();
+        if rng.one_in(3) {
+            guests[0] = rng.pick(&ODD_IDS);
+        }
+        Evening {
+            mood,
+            hall: hall::Hall::default(),
+            keyed: Vec::new(),
+            fresh: u64::from(rng.one_in(2)),
+            guests,
+            ratings: ratings(rng),
+            times: times(rng),
+        }
+    }
+
+    /// A call, which the hall answers at once.
+    fn next(&mut self, rng: &mut Rng) -> Call {
+        let call = self.call(rng);
+        if !matches!(call, Call::Round(_)) {
+            self.keyed.push(call.clone());
+        }
+        self.hall.answer(&call);
+        call
+    }
+
+    fn call(&mut self, rng: &mut Rng) -> Call {
+        let shares = match self.mood {
+            Mood::Plain => [10, 3, 4, 2, 5],
+            Mood::Crowd => [60, 2, 4, 2, 3],
+            Mood::Long => [20, 12, 2, 1, 1],
+        };
+        let kinds = [
+            Next::Book,
+            Next::Withdraw,
+            Next::Resend,
+            Next::Clash,
+            Next::Round,
+        ];
+        let weighted: [(usize, Next); 5] = from_fn(|place| (shares[place], kinds[place]));
+        match rng.weighted(&weighted) {
+            Next::Resend if !self.keyed.is_empty() => self.resend(rng),
+            Next::Clash if !self.keyed.is_empty() => self.clash(rng),
+            Next::Withdraw => Call::Withdraw {
+                key: self.key(rng),
+                player: self.leaving(rng),
+            },
+            Next::Round => self.round(rng),
+            _ => {
+                let player = self.coming(rng);
+                self.book(rng, player)
+            }
+        }
+    }
+
+    /// A crowd stays one: greedy and beam rounds would seat it.
+    fn round(&self, rng: &mut Rng) -> Call {
+        let shares = match self.mood {
+            Mood::Crowd => [1, 1, 6],
+            Mood::Plain | Mood::Long => [1, 1, 1],
+        };
+        let queue = Queue::of(&self.hall.waiting);
+        Call::Round(Box::new(round(rng, &queue, shares)))
+    }
+
+    fn book(&mut self, rng: &mut Rng, player: u64) -> Call {
+        Call::Book {
+            key: self.key(rng),
+            entry: self.entry(rng, player),
+        }
+    }
+
+    /// A new key mostly, from 0 or 1 up; one of a few odd ones at times.
+    fn key(&mut self, rng: &mut Rng) -> u64 {
+        if rng.one_in(40) {
+            return rng.pick(&ODD_IDS);
+        }
+        self.fresh += 1;
+        self.fresh - 1
+    }
+
+    fn entry(&self, rng: &mut Rng, player: u64) -> QueueEntry {
+        QueueEntry {
+            player,
+            joined: match rng.one_in(20) {
+                true => late_time(rng),
+                false => joined(rng, self.times),
+            },
+            rating: rating(rng, self.ratings),
+            party: party(rng),
+            role: role(rng),
+        }
+    }
+
+    /// Somebody who does not wait, mostly.
+    fn coming(&self, rng: &mut Rng) -> u64 {
+        let waits = |guest: &u64| self.hall.waiting.iter().any(|e| e.player == *guest);
+        let away: Vec<u64> = self.guests.iter().copied().filter(|g| !waits(g)).collect();
+        match away.is_empty() || rng.one_in(8) {
+            true => rng.pick(&self.guests),
+            false => rng.pick(&away),
+        }
+    }
+
+    /// Somebody who waits, mostly.
+    fn leaving(&self, rng: &mut Rng) -> u64 {
+        match self.hall.waiting.is_empty() || rng.one_in(4) {
+            true => rng.pick(&self.guests),
+            false => rng.pick(&self.hall.waiting).player,
+        }
+    }
+
+    /// An earlier call again; a booking at times with all but its guest changed, which its key does not stand for.
+    fn resend(&self, rng: &mut Rng) -> Call {
+        let earlier = self.keyed[rng.below(self.keyed.len())].clone();
+        match earlier {
+            Call::Book { key, entry } if rng.one_in(2) => Call::Book {
+                key,
+                entry: self.entry(rng, entry.player),
+            },
+            other => other,
+        }
+    }
+
+    /// An earlier call's key for another guest or another kind of call.
+    fn clash(&self, rng: &mut Rng) -> Call {
+        let other = rng.pick(&self.guests);
+        let same_guest = rng.one_in(2);
+        match self.keyed[rng.below(self.keyed.len())] {
+            Call::Withdraw { key, player } if same_guest => Call::Book {
+                key,
+                entry: self.entry(rng, player),
+            },
+            Call::Book { key, entry } if same_guest => Call::Withdraw {
+                key,
+                player: entry.player,
+            },
+            Call::Book { key, .. } => Call::Book {
+                key,
+                entry: self.entry(rng, other),
+            },
+            Call::Withdraw { key, .. } => Call::Withdraw { key, player: other },
+            Call::Round(_) => unreachable!("a round has no key"),
+        }
+    }
+}
+
+/// A round among those who wait in `queue`, by the shares of greedy, beam and full ones.
+fn round(rng: &mut Rng, queue: &Queue, [greedy, beams, fulls]: [usize; 3]) -> Round {
+    let mut sizes = match rng.one_in(8) {
+        true => team_sizes(rng),
+        false => seats(rng),
+    };
+    let search = match rng.weighted(&[(greedy, 0), (beams, 1), (fulls, 2)]) {
+        0 => Search::Greedy(searched_columns(rng, Scale::Full, queue, false)),
+        1 => beam(rng, queue, &mut sizes),
+        _ => full(rng, queue, &mut sizes),
+    };
+    Round {
+        search,
+        sizes,
+        clock: clock(rng, queue),
+        sheets: sheets(rng, Scale::Full),
+    }
+}
+
+/// Few seats, so that matches come often.
+fn seats(rng: &mut Rng) -> TeamComposition {
+    let (a, b) = rng.weighted(&[
+        (6, (1, 1)),
+        (5, (2, 2)),
+        (3, (1, 2)),
+        (3, (2, 1)),
+        (2, (3, 2)),
+        (2, (3, 3)),
+        (1, (1, 0)),
+        (1, (0, 1)),
+        (1, (0, 0)),
+    ]);
+    TeamComposition { a, b }
+}
+
+/// The more wait, the narrower; of many, few are seated.
+fn beam(rng: &mut Rng, queue: &Queue, sizes: &mut TeamComposition) -> Search {
+    let waiting = queue.waiting().len().max(1);
+    let within = sizes.a <= TEAM_LIMIT && sizes.b <= TEAM_LIMIT;
+    if waiting > 24 && within {
+        (sizes.a, sizes.b) = (sizes.a.min(3), sizes.b.min(3));
+    }
+    let mut columns = searched_columns(rng, Scale::Full, queue, true);
+    if !rng.one_in(4) {
+        settle(&mut columns);
+    }
+    Search::Beam {
+        width: width(rng, (96 / waiting).clamp(1, WIDTH_LIMIT)),
+        objective: match_objective(rng),
+        columns,
+    }
+}
+
+/// So many choices at most, save where no listing is made.
+const CHOICES: usize = 400;
+
+fn full(rng: &mut Rng, queue: &Queue, sizes: &mut TeamComposition) -> Search {
+    let within = sizes.a <= TEAM_LIMIT && sizes.b <= TEAM_LIMIT;
+    if queue.len <= LISTED_LIMIT && within && ways(queue.len, sizes.a + sizes.b) > CHOICES {
+        *sizes = some_seats(rng, queue.len, CHOICES);
+    }
+    let mut choice = choice_among(rng, Scale::Full, *queue, *sizes);
+    let refused = [OVER_LIMIT, BAD_ROSTER].contains(&model::best_choice(&choice));
+    if refused && !rng.one_in(4) {
+        choice = choice_among(rng, Scale::Full, *queue, *sizes);
+    }
+    if rng.one_in(2) {
+        choice.constraints.brought = latency(false);
+    }
+    Search::Full {
+        constraints: choice.constraints,
+        objectives: choice.objectives,
+        rows: choice.rows,
+    }
+}
+
+/// A hall and a call. No list need lead to the hall: guests may wait twice or have joined late, and it may be over its limits.
+pub fn single(rng: &mut Rng) -> (Hall, Call) {
+    let mut waiting = queue(rng, Scale::Full);
+    if waiting.len <= QUEUE_LIMIT && rng.one_in(2) {
+        waiting.len = waiting.len.min(rng.below(13));
+    }
+    let hall = Hall {
+        log: log(rng, &waiting),
+        waiting,
+    };
+    let call = match rng.below(5) {
+        0 => Call::Book {
+            key: key(rng, &hall.log),
+            entry: entry(rng, &hall.waiting),
+        },
+        1 => Call::Withdraw {
+            key: key(rng, &hall.log),
+            player: player(rng, &hall.waiting),
+        },
+        _ => Call::Round(Box::new(round(rng, &hall.waiting, [1, 1, 1]))),
+    };
+    let call = if rng.one_in(3) {
+        again(rng, &hall.log, call)
+    } else {
+        call
+    };
+    (hall, call)
+}
+
+/// All 1,024 places are filled, each with its own key and an answer that its kind can get.
+fn log(rng: &mut Rng, queue: &Queue) -> KeyLog {
+    let len = match rng.below(12) {
+        0 => rng.pick(&[NOTE_LIMIT + 1, NOTE_LIMIT + 2, LONG[3], LONG[4], LONG[5]]),
+        1 | 2 => NOTE_LIMIT - rng.below(2),
+        3 => rng.below(NOTE_LIMIT),
+        _ => rng.below(8),
+    };
+    let mut keys: Vec<u64> = (0..NOTE_LIMIT as u64).collect();
+    rng.shuffle(&mut keys);
+    let record = |place: usize| {
+        let kind = rng.below(2) as u8;
+        let answer = match kind {
+            0 => rng.pick(&[0, 4, 9, 10]),
+            _ => rng.pick(&[0, 11]),
+        };
+        KeyRecord {
+            key: keys[place],
+            player: player(rng, queue),
+            kind,
+            answer,
+        }
+    };
+    KeyLog {
+        records: from_fn(record),
+        len,
+    }
+}
+
+/// Noted or not, or noted only past `len`, where nobody may look.
+fn key(rng: &mut Rng, log: &KeyLog) -> u64 {
+    match rng.below(4) {
+        0 => rng.pick(&ODD_IDS),
+        1 if log.len > 0 => rng.pick(log.noted()).key,
+        _ => rng.pick(&log.records).key,
+    }
+}
+
+/// The call with a record's key and guest, where one is noted: its resend if the kinds agree, else a clash.
+fn again(rng: &mut Rng, log: &KeyLog, other: Call) -> Call {
+    if log.len == 0 {
+        return other;
+    }
+    let KeyRecord {
+        key, player, kind, ..
+    } = rng.pick(log.noted());
+    match (kind, other) {
+        (0, Call::Book { entry, .. }) => Call::Book {
+            key,
+            entry: QueueEntry { player, ..entry },
+        },
+        (_, Call::Withdraw { .. }) => Call::Withdraw { key, player },
+        (_, other) => other,
+    }
+}
+
+#[cfg(test)]
+mod tests {
+    use super::*;
+
+    #[test]
+    fn lists_by_their_number() {
+        let len = |number| list(&mut Rng::for_case(1, "lists", number), number).len();
+        for number in 0..32 {
+            let calls = len(number);
+            let long = number % 16 == 3;
+            assert!(calls >= 50 && (calls > 1024) == long, "{number}: {calls}");
+        }
+    }
+
+    #[test]
+    fn single_halls_of_every_sort() {
+        let mut rng = Rng::new(1);
+        let halls: Vec<Hall> = (0..1000).map(|_| single(&mut rng).0).collect();
+        let seen = |wanted: fn(&Hall) -> bool| halls.iter().filter(|hall| wanted(hall)).count();
+        assert!(seen(|hall| hall.waiting.len > QUEUE_LIMIT) > 20);
+        assert!(seen(|hall| hall.log.len > NOTE_LIMIT) > 20);
+        assert!(seen(|hall| hall.log.len == NOTE_LIMIT) > 20);
+        assert!(seen(|hall| model::joined_late(&hall.waiting)) > 20);
+        let doubled = |hall: &Hall| {
+            let waiting = hall.waiting.waiting().iter();
+            let ids: Vec<u64> = waiting.map(|entry| entry.player).collect();
+            model::doubled(&ids)
+        };
+        assert!(seen(doubled) > 200);
+    }
+}

@@ -1,0 +1,126 @@
+//! The hall on drawn lists of calls: the library beside the model after every call, and demand 3 on the library's own answers.
+
+mod counter;
+mod counts;
+mod demand;
+
+pub use counter::{Counter, Library, Modelled};
+pub use counts::Counts;
+
+use crate::data::{Answer, Call};
+use crate::draw;
+use crate::rng::Rng;
+use crate::same::Same;
+use demand::{Ledger, Mark};
+use std::fmt::Debug;
+use yilgashe_sys::{Hall, KeyLog, Queue};
+
+/// Lists until so many calls are made, then a quarter as many single calls; `show` gets each difference in words.
+pub fn run<L: Counter, M: Counter>(seed: u64, calls: u64, show: &mut dyn FnMut(String)) -> Counts {
+    let mut counts = Counts::default();
+    while counts.calls < calls {
+        let number = counts.lists;
+        let list = draw::list(&mut Rng::for_case(seed, "hall", number), number);
+        counts.lists += 1;
+        counts.calls += list.len() as u64;
+        if let Err(difference) = judge::<L, M>(&list, &mut counts) {
+            counts.differences += 1;
+            show(format!("list {number} of seed {seed}, {difference}"));
+        }
+    }
+    for number in 0..calls / 4 {
+        let (hall, call) = draw::single(&mut Rng::for_case(seed, "single", number));
+        if let Err(difference) = judge_single::<L, M>(&hall, &call, &mut counts) {
+            counts.differences += 1;
+            show(format!("single call {number} of seed {seed}, {difference}"));
+        }
+    }
+    counts
+}
+
+/// Serves a list on both sides, to the first difference.
+pub fn judge<L: Counter, M: Counter>(calls: &[Call], counts: &mut Counts) -> Result<(), String> {
+    let (mut library, mut model) = (L::open(), M::open());
+    let mut ledger = Ledger::default();
+    let mut kept: Vec<(&Call, Answer)> = Vec::new();
+    if !library.hall().same(&model.hall()) {
+        return Err("the empty hall is not empty".into());
+    }
+    for (place, call) in calls.iter().enumerate() {
+        let before = library.hall();
+        let answer = library.serve(call);
+        let after = library.hall();
+        counts.count(call, &answer);
+        let agreed = agree(call, (&answer, &after), (&model.serve(call), &model.hall()));
+        let marked = agreed.and_then(|()| ledger.enter(call, &answer, &before, &after));
+        match marked.map_err(|difference| format!("call {place}: {difference}"))? {
+            Mark::Resend => counts.resends += 1,
+            Mark::Original | Mark::Other => kept.push((call, answer)),
+        }
+    }
+    without_resends::<L>(&kept, &library.hall())
+}
+
+/// The list with resends left out: does it answer alike and end alike?
+fn without_resends<L: Counter>(calls: &[(&Call, Answer)], end: &Hall) -> Result<(), String> {
+    let mut library = L::open();
+    for (call, answer) in calls {
+        let alone = library.serve(call);
+        if !alone.same(answer) {
+            return Err(format!(
+                "without resends a call answers otherwise\n  call: {call:?}\n  with: {answer:?}\n  without: {alone:?}"
+            ));
+        }
+    }
+    match library.hall().same(end) {
+        true => Ok(()),
+        false => Err("without resends the hall ends otherwise".into()),
+    }
+}
+
+/// Serves one call on a hall that no list need lead to.
+pub fn judge_single<L: Counter, M: Counter>(
+    hall: &Hall,
+    call: &Call,
+    counts: &mut Counts,
+) -> Result<(), String> {
+    let (mut library, mut model) = (L::with(hall), M::with(hall));
+    let (answer, expected) = (library.serve(call), model.serve(call));
+    counts.count_single(&answer);
+    let agreed = agree(call, (&answer, &library.hall()), (&expected, &model.hall()));
+    agreed.map_err(|difference| format!("{difference}\n  before: {:?}", hall.waiting))
+}
+
+/// Answers and halls are the same, or where they part in words.
+fn agree(
+    call: &Call,
+    (answer, hall): (&Answer, &Hall),
+    (expected, expected_hall): (&Answer, &Hall),
+) -> Result<(), String> {
+    if answer.same(expected) && hall.same(expected_hall) {
+        return Ok(());
+    }
+    let (queue, log) = (&hall.waiting, &hall.log);
+    let (expected_queue, expected_log) = (&expected_hall.waiting, &expected_hall.log);
+    let waiting = parted(queue.waiting(), expected_queue.waiting());
+    let notes = parted(log.noted(), expected_log.noted());
+    let lens = |queue: &Queue, log: &KeyLog| format!("{} wait, {} notes", queue.len, log.len);
+    Err(format!(
+        "{call:?}\n  expected: {expected:?}; {}\n  library:  {answer:?}; {}\n  waiting: {waiting}\n  notes: {notes}",
+        lens(expected_queue, expected_log),
+        lens(queue, log)
+    ))
+}
+
+/// The first place where two lists differ.
+fn parted<T: Same + Debug>(library: &[T], expected: &[T]) -> String {
+    let least = library.len().min(expected.len());
+    let differs = (0..least).find(|&place| !library[place].same(&expected[place]));
+    match differs.or((library.len() != expected.len()).then_some(least)) {
+        None => "alike".into(),
+        Some(place) => {
+            let (expected, library) = (expected.get(place), library.get(place));
+            format!("place {place}, expected {expected:?}, library {library:?}")
+        }
+    }
+}
