@@ -1,13 +1,13 @@
 -- Document 01, "At the table": the starred lines, as one theorem that ranges over a list of them.
-use Prim.Native.Nat.{ℕ}
+use Prim.Native.Nat.{ℕ, _-_}
 use mathlib.Core.Path.{_≡_, refl}
-use mathlib.Core.Bool.{false}
-use mathlib.Core.List.{List, [], _∷_, map}
+use mathlib.Core.Bool.{Bool, true, false}
+use mathlib.Core.List.{List, [], _∷_, _++_, map}
 use mathlib.Core.Option.{some}
 use lib.Ieee.{Float, nan, binary64, add, sub, mul, div, lt, le, eq, ne, isNan, round, ofInt, ofBits}
-use lib.ListN.{length, take}
+use lib.ListN.{length, take, replicate}
 use Rattle.base.specs.Floats.{zero, one, absOf, minOf}
-use Rattle.base.specs.Lists.{All, seek, keep}
+use Rattle.base.specs.Lists.{All, seek, keep, removeFirst, distinct}
 use Rattle.base.specs.Ranking.{insertBy}
 use Rattle.base.specs.Refusals.{Outcome, refused, gives}
 use Rattle.queue.specs.Time.{secondsOf}
@@ -22,14 +22,17 @@ use Rattle.objective.specs.declared.soft.SoftObjective.{SoftObjective}
 use Rattle.objective.specs.declared.soft.SoftObjective.the-variants.{Wait}
 use Rattle.objective.specs.declared.pareto.MatchObjectiveVector.{MatchObjectiveVector}
 use Rattle.seating.specs.declared.TeamComposition.{TeamComposition}
-use Rattle.seating.specs.Seating.{lineup, seats}
+use Rattle.seating.specs.Seating.{Sheets, lineup, seats}
 use Rattle.search.specs.Turns.{grown}
 use Rattle.constraint.specs.declared.Constraints.{Constraints}
 use Rattle.candidate.specs.Choices.{choices, ways}
 use Rattle.candidate.specs.Exhaustive.{exhaustiveMatches}
 use Rattle.choice.specs.Full.{terms, chosen}
-use Rattle.hall.specs.Hall.{empty, book, deal, answerIn, judge}
-use Rattle.hall.specs.Calls.{Call, keyed, answered, step, after, answers}
+use Rattle.hall.specs.declared.KeyRecord.{KeyRecord}
+use Rattle.hall.specs.Hall.{HallState, hallWith, empty, book, withdraw, deal, answerIn, judge}
+use Rattle.hall.specs.Rounds as Rounds
+use Rattle.hall.specs.Calls as Calls
+use Rattle.hall.specs.Calls.{Call, keyed, Answer, answered, handed, step, after, answers, markOf, leave, thin}
 use Rattle.search.specs.Beam.{expansions, stepped, steps, beamOf, beaming, beamMatches}
 use Rattle.search.specs.Greedy.{closer, nearest, filled, anchored, greedyMatches}
 
@@ -93,6 +96,40 @@ unconstrained =
 abbrev booking : ℕ → ℕ → Call
 booking key player = keyed key (book (record { player = player; joined = 0; rating = thousand; party = 0; role = 0 }))
 
+abbrev withdrawal : ℕ → ℕ → Call
+withdrawal key player = keyed key (withdraw player)
+
+-- sheets of 64 places, of which some are written and the others hold what they held before: guest 0 and 0.0
+abbrev sheet : {A : Type 0} → List A → A → List A
+sheet row blank = row ++ replicate (64 - length row) blank
+
+abbrev sheets : List ℕ → List Float → Sheets
+sheets players qualities = record { players = sheet players 0; qualities = sheet qualities zero }
+
+-- a greedy round 1+1 among guests who are all rated 1000, and its answer: one match
+abbrev pairing : Call
+pairing =
+    Calls.round
+    (record {
+      round = Rounds.greedy (sizes 1 1) (ofRatings (1 ∷ 2 ∷ 3 ∷ 4 ∷ []) (replicate 4 thousand));
+      clock = 0;
+      sheets = sheets [] [];
+    })
+
+abbrev paired : ℕ → ℕ → Answer
+paired p q = handed (record { answer = gives 1; sheets = sheets (p ∷ q ∷ []) (one ∷ []) }) 0
+
+abbrev accepted : Answer
+accepted = answered (gives tt)
+
+-- the note of a call that was accepted: key, kind and guest
+abbrev noted : ℕ → ℕ → ℕ → KeyRecord
+noted key kind player = record { key = key; player = player; kind = kind; answer = 0 }
+
+-- which calls of a list are resends
+abbrev resends : List Call → List Bool
+resends cs = leave (replicate (length cs) true) [] cs
+
 pub data Line : Type 0 where
   -- a difference of averages, and its quality
   difference : Float → Float → Line
@@ -108,6 +145,8 @@ pub data Line : Type 0 where
   full : TeamComposition → List QueueEntry → List SoftObjective → MatchState → ℕ → Line
   -- keyed calls from an empty hall: what each answers, and how many wait at the end
   calls : List Call → List (Outcome (Unit {0})) → ℕ → Line
+  -- calls from an empty hall: which of them are resends, what each answers, and the hall at the end
+  story : List Call → List Bool → List Answer → HallState → Line
   -- the entry picked for a reference rating
   pick : Float → List QueueEntry → QueueEntry → Line
 
@@ -120,13 +159,16 @@ Holds (beam s width o) = beamMatches (beaming s width byQuality rostered guests 
 Holds (exhaustive s queue ms) = exhaustiveMatches s queue ≡ ms
 Holds (full s queue os m n) = chosen (terms rostered unconstrained os (length os)) s queue ≡ gives (record { best = some m; tried = n })
 Holds (calls cs os n) = (answers empty cs ≡ map answered os) × (length (after empty cs .waiting .entries) ≡ n)
+Holds (story cs rs os h) = (resends cs ≡ rs) × ((answers empty cs ≡ os) × ((after empty cs ≡ h) × ((answers empty (thin rs cs) ≡ thin rs os) × (after empty (thin rs cs) ≡ h))))
 Holds (pick reference queue e) = nearest reference [] queue ≡ some e
 
 -- "Differences 0, 100, 400, NaN: 1.0, 0.75, 0.0, 0.0." "Equal vectors do not dominate." "Greedy 2+2: A {1, 4}, B {3, 2}, quality
 -- 0.75." "Greedy 0+1: none." "Beam width 0: 1+1 none; 1+0 one match a guest." "Exhaustive 2+2: A {1, 2}, B {3, 4} only."
 -- "Exhaustive 1+1 of guests 1, 2, 3: (1,2), (1,3), (2,3)." "Full round on those, wait objective only: (2,3), tried 3."
 -- "Booking key 7 guest 1 accepted; again: accepted, one waiting; key 7 guest 2: 7; key 8 guest 1: 9."
--- "Reference 1000, entries 1010 then 990: 1010." The beam of width 4 is no line of the paper, but tells wrong turns apart.
+-- "Reference 1000, entries 1010 then 990: 1010." The beam of width 4 is no line of the paper, but tells wrong turns apart. Nor is
+-- the story: a phone resends two bookings after a withdrawal and a round, among guests who are rated alike. Each gets the answer that
+-- it got, nobody waits for it, and no table is played one short; without the resends all else is the same.
 abbrev pub lines : List Line
 lines =
     difference zero one
@@ -147,9 +189,14 @@ lines =
     ∷ calls (booking 7 1 ∷ booking 7 1 ∷ []) (gives tt ∷ gives tt ∷ []) 1
     ∷ calls (booking 7 1 ∷ booking 7 2 ∷ []) (gives tt ∷ refused 7 ∷ []) 1
     ∷ calls (booking 7 1 ∷ booking 8 1 ∷ []) (gives tt ∷ refused 9 ∷ []) 1
+    ∷ story
+    (booking 1 1 ∷ booking 2 2 ∷ booking 3 3 ∷ withdrawal 4 3 ∷ pairing ∷ booking 1 1 ∷ booking 3 3 ∷ booking 5 1 ∷ booking 6 4 ∷ pairing ∷ [])
+    (false ∷ false ∷ false ∷ false ∷ false ∷ true ∷ true ∷ false ∷ false ∷ false ∷ [])
+    (accepted ∷ accepted ∷ accepted ∷ accepted ∷ paired 1 2 ∷ accepted ∷ accepted ∷ accepted ∷ accepted ∷ paired 1 4 ∷ [])
+    (hallWith [] (noted 1 0 1 ∷ noted 2 0 2 ∷ noted 3 0 3 ∷ noted 4 1 3 ∷ noted 5 0 1 ∷ noted 6 0 4 ∷ []))
     ∷ pick thousand (entry 1 r1010 ∷ entry 2 r990 ∷ []) (entry 1 r1010)
     ∷ []
 
 pub at-the-table : All Holds lines
-unfolding qualityAt absOf minOf dominatesOf anyBelow seek keep observe observations averageFrom closer grown filled anchored insertBy expansions stepped steps beamOf seats secondsOf longer scoreFrom choices ways step judge deal answerIn weighted latencyAt mul add div sub lt le eq ne isNan ofInt ofBits round
-at-the-table = (refl, (refl, (refl, (refl, (refl, (refl, ((refl, refl), ((refl, refl), (refl, (refl, (refl, (refl, (refl, (refl, ((refl, refl), ((refl, refl), ((refl, refl), ((refl, refl), (refl, tt)))))))))))))))))))
+unfolding qualityAt absOf minOf dominatesOf anyBelow seek keep observe observations averageFrom closer grown filled anchored insertBy expansions stepped steps beamOf seats secondsOf longer scoreFrom choices ways step judge deal answerIn markOf removeFirst distinct weighted latencyAt mul add div sub lt le eq ne isNan ofInt ofBits round
+at-the-table = (refl, (refl, (refl, (refl, (refl, (refl, ((refl, refl), ((refl, refl), (refl, (refl, (refl, (refl, (refl, (refl, ((refl, refl), ((refl, refl), ((refl, refl), ((refl, refl), ((refl, (refl, (refl, (refl, refl)))), (refl, tt))))))))))))))))))))

@@ -1,11 +1,10 @@
--- `tables::waiting` is safe and ends. Stores keep the array's length.
-use Rattle.base.proofs.Arrays.{unmapped}
+-- `tables::lines::waiting` is safe and ends. Stores keep the array's length.
 use lib.ListN.{length}
 use mathlib.Core.Path.{_≡_}
 use Prim.Native.Nat.{_-_}
 use borrow.Author.Needs.{needs}
-use Rattle.tables.proofs.waiting.Statement.{statement}
-use Rattle.tables.proofs.waiting.Tie as tie
+use Rattle.tables.proofs.lines.waiting.Statement.{statement}
+use Rattle.tables.proofs.lines.waiting.Tie as tie
 
 abbrev Inv-loop : tie.InvT-loop
 Inv-loop len entries₀ i₀ entries i = length entries ≡ 64
@@ -17,7 +16,7 @@ guest-requires : tie.Need-guest-requires Inv-loop μ-loop
 guest-requires c κs = search needs
 
 loop-holds : tie.Need-loop-holds Inv-loop μ-loop
-loop-holds c = search (unmapped, needs)
+loop-holds c = search needs
 
 guest-requires-2 : tie.Need-guest-requires-2 Inv-loop μ-loop
 guest-requires-2 c κs = search needs

@@ -1,0 +1,322 @@
+// The five calls of a hall, what each brings, and how it is made.
+use crate::rosters;
+use base::Checked;
+use hall::Booking;
+use hall::Hall;
+use hall::Keyed;
+use hall::rounds::Rounded;
+use objective::score::MatchObjective;
+use objective::soft::SoftObjective;
+use rosters::Roster;
+use seating::Formed;
+use seating::TeamComposition;
+
+pub const BOOKING: u8 = 0;
+
+pub const WITHDRAWAL: u8 = 1;
+
+pub const GREEDY: u8 = 2;
+
+pub const BEAM: u8 = 3;
+
+pub const FULL: u8 = 4;
+
+// What is wrong with what a round brings: nothing, too few ratings, short sheets, or a weight that is NaN.
+pub const SOUND: u8 = 0;
+
+pub const FEW_RATINGS: u8 = 1;
+
+pub const SHORT_SHEETS: u8 = 2;
+
+pub const NO_WEIGHT: u8 = 3;
+
+// One of the five kinds. `time` is a booking's joined time and a round's clock.
+pub struct Call {
+    pub kind: u8,
+    pub key: u64,
+    pub player: u64,
+    pub rating: f64,
+    pub time: u64,
+    pub a: usize,
+    pub b: usize,
+    pub width: usize,
+    pub fault: u8,
+}
+
+// What a call gives besides the hall and its sheets. Refusal 0 is none.
+pub struct Answer {
+    pub refusal: u8,
+    pub matches: usize,
+    pub tried: u64,
+}
+
+pub struct Made {
+    pub hall: Hall,
+    pub answer: Answer,
+}
+
+// ---- calls
+
+pub fn booking(key: u64, player: u64, rating: f64, joined: u64) -> Call {
+    Call {
+        kind: BOOKING,
+        key: key,
+        player: player,
+        rating: rating,
+        time: joined,
+        a: 0,
+        b: 0,
+        width: 0,
+        fault: SOUND,
+    }
+}
+
+pub fn withdrawal(key: u64, player: u64) -> Call {
+    Call {
+        kind: WITHDRAWAL,
+        key: key,
+        player: player,
+        rating: 0.0,
+        time: 0,
+        a: 0,
+        b: 0,
+        width: 0,
+        fault: SOUND,
+    }
+}
+
+pub fn round(kind: u8, a: usize, b: usize, width: usize, clock: u64, fault: u8) -> Call {
+    Call {
+        kind: kind,
+        key: 0,
+        player: 0,
+        rating: 0.0,
+        time: clock,
+        a: a,
+        b: b,
+        width: width,
+        fault: fault,
+    }
+}
+
+pub fn is_keyed(call: Call) -> bool {
+    call.kind < GREEDY
+}
+
+// ---- answers
+
+fn refusal_of(answer: Checked) -> u8 {
+    match answer {
+        Checked::Passed => 0,
+        Checked::Refused(refusal) => refusal.number(),
+    }
+}
+
+fn keyed(made: Keyed) -> Made {
+    let hall = made.hall;
+    let answer = made.answer;
+    Made {
+        hall: hall,
+        answer: Answer {
+            refusal: refusal_of(answer),
+            matches: 0,
+            tried: 0,
+        },
+    }
+}
+
+pub fn formed(given: Formed, tried: u64) -> Answer {
+    match given {
+        Formed::Count(matches) => Answer {
+            refusal: 0,
+            matches: matches,
+            tried: tried,
+        },
+        Formed::Refused(refusal) => Answer {
+            refusal: refusal.number(),
+            matches: 0,
+            tried: tried,
+        },
+    }
+}
+
+fn rounded(made: Rounded) -> Made {
+    let hall = made.hall;
+    let given = made.answer;
+    Made {
+        hall: hall,
+        answer: formed(given, made.tried),
+    }
+}
+
+// ---- making a call
+
+fn book(hall: Hall, call: Call) -> Made {
+    let booking = Booking {
+        player: call.player,
+        joined: call.time,
+        rating: call.rating,
+        party: 0,
+        role: 0,
+    };
+    keyed(hall.book(call.key, booking))
+}
+
+fn greedy(
+    hall: Hall,
+    call: Call,
+    ids: &[u64; 128],
+    ratings: &[f64],
+    players: &mut [u64],
+    qualities: &mut [f64],
+) -> Made {
+    let sizes = TeamComposition {
+        a: call.a,
+        b: call.b,
+    };
+    rounded(hall.greedy_round(sizes, call.time, ids, ratings, players, qualities))
+}
+
+// The weight of quality and skill.
+fn weight(call: Call) -> f64 {
+    if call.fault == NO_WEIGHT {
+        return rosters::nan();
+    }
+    1.0
+}
+
+fn beam(
+    hall: Hall,
+    call: Call,
+    ids: &[u64; 128],
+    ratings: &[f64],
+    deviations: &[f64; 128],
+    players: &mut [u64],
+    qualities: &mut [f64],
+) -> Made {
+    let sizes = TeamComposition {
+        a: call.a,
+        b: call.b,
+    };
+    let objective = MatchObjective {
+        quality: weight(call),
+        wait: 0.5,
+        ping: 0.0,
+        uncertainty: 0.2,
+    };
+    rounded(hall.beam_round(
+        sizes,
+        call.width,
+        objective,
+        call.time,
+        ids,
+        ratings,
+        deviations,
+        players,
+        qualities,
+    ))
+}
+
+// By wait and skill. Where the width is odd, parties sit together.
+fn full(
+    hall: Hall,
+    call: Call,
+    ids: &[u64; 128],
+    ratings: &[f64],
+    parties: &[u64; 128],
+    roles: &[u32; 128],
+    regions: &[u8; 128],
+    players: &mut [u64],
+    qualities: &mut [f64],
+) -> Made {
+    let sizes = TeamComposition {
+        a: call.a,
+        b: call.b,
+    };
+    let mut objectives = [SoftObjective::Wait(0.5); 8];
+    objectives[1] = SoftObjective::Skill(weight(call));
+    let together = call.width % 2 == 1;
+    rounded(hall.full_round(
+        sizes,
+        rosters::constraints(together),
+        objectives,
+        2,
+        call.time,
+        ids,
+        ratings,
+        parties,
+        roles,
+        regions,
+        players,
+        qualities,
+    ))
+}
+
+// A round by the roster's other columns. All are of no role and of no region.
+fn round_by(
+    hall: Hall,
+    call: Call,
+    roster: Roster,
+    ratings: &[f64],
+    players: &mut [u64],
+    qualities: &mut [f64],
+) -> Made {
+    let ids = roster.ids;
+    let deviations = roster.deviations;
+    let parties = roster.parties;
+    let roles = [0u32; 128];
+    let regions = [4u8; 128];
+    if call.kind == GREEDY {
+        return greedy(hall, call, &ids, ratings, players, qualities);
+    }
+    if call.kind == BEAM {
+        return beam(hall, call, &ids, ratings, &deviations, players, qualities);
+    }
+    full(
+        hall,
+        call,
+        &ids,
+        ratings,
+        &parties,
+        &roles,
+        &regions,
+        players,
+        qualities,
+    )
+}
+
+// A round with the fault that it brings.
+fn make_round(
+    hall: Hall,
+    call: Call,
+    roster: Roster,
+    players: &mut [u64; 64],
+    qualities: &mut [f64; 64],
+) -> Made {
+    let ratings = roster.ratings;
+    if call.fault == FEW_RATINGS {
+        let few = [1000.0f64; 127];
+        return round_by(hall, call, roster, &few, players, qualities);
+    }
+    if call.fault == SHORT_SHEETS {
+        let mut short = [0u64; 63];
+        return round_by(hall, call, roster, &ratings, &mut short, qualities);
+    }
+    round_by(hall, call, roster, &ratings, players, qualities)
+}
+
+pub fn make(
+    hall: Hall,
+    call: Call,
+    roster: Roster,
+    players: &mut [u64; 64],
+    qualities: &mut [f64; 64],
+) -> Made {
+    if call.kind == BOOKING {
+        return book(hall, call);
+    }
+    if call.kind == WITHDRAWAL {
+        return keyed(hall.withdraw(call.key, call.player));
+    }
+    make_round(hall, call, roster, players, qualities)
+}

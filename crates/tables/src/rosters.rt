@@ -1,0 +1,95 @@
+// Rosters by value, and what a full round brings.
+use constraint::Brought;
+use constraint::Constraints;
+use constraint::regions::RegionConstraint;
+use constraint::regions::RegionPair;
+use constraint::roles::Maximum;
+use constraint::roles::RoleConstraint;
+use constraint::roles::RoleRequirement;
+use constraint::sizes::TeamSizeConstraint;
+
+// Guests 1 to 128, by row.
+pub struct Roster {
+    pub ids: [u64; 128],
+    pub ratings: [f64; 128],
+    pub deviations: [f64; 128],
+    pub parties: [u64; 128],
+}
+
+pub fn nan() -> f64 {
+    0.0 / 0.0
+}
+
+// Few values, so that many guests are rated alike, guests 1 to 4 among them.
+pub fn rating(guest: u64) -> f64 {
+    match guest % 8 {
+        5 => 1010.0,
+        6 => 1090.0,
+        7 => nan(),
+        _ => 1000.0,
+    }
+}
+
+fn ids() -> [u64; 128] {
+    let mut ids = [0u64; 128];
+    let mut i: usize = 0;
+    while i < 128 {
+        ids[i] = i as u64 + 1;
+        i += 1;
+    }
+    ids
+}
+
+fn ratings() -> [f64; 128] {
+    let mut ratings = [0.0f64; 128];
+    let mut i: usize = 0;
+    while i < 128 {
+        ratings[i] = rating(i as u64 + 1);
+        i += 1;
+    }
+    ratings
+}
+
+// Guests 5 and 6 are a party.
+pub fn guests() -> Roster {
+    let mut parties = [0u64; 128];
+    parties[4] = 1;
+    parties[5] = 1;
+    Roster {
+        ids: ids(),
+        ratings: ratings(),
+        deviations: [50.0; 128],
+        parties: parties,
+    }
+}
+
+// No constraint, or that parties sit together.
+pub fn constraints(together: bool) -> Constraints {
+    let requirement = RoleRequirement {
+        role: 0,
+        least: 0,
+        most: Maximum::Unbounded,
+    };
+    let pair = RegionPair {
+        first: 0,
+        second: 0,
+    };
+    Constraints {
+        brought: Brought {
+            sizes: false,
+            roles: false,
+            parties: together,
+            latency: false,
+            regions: false,
+        },
+        sizes: TeamSizeConstraint { a: 0, b: 0 },
+        roles: RoleConstraint {
+            requirements: [requirement; 8],
+            count: 0,
+        },
+        regions: RegionConstraint {
+            pairs: [pair; 16],
+            count: 0,
+        },
+    }
+}
