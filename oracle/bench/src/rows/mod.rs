@@ -89,7 +89,7 @@ mod tests {
     use crate::stack::depth;
 
     /// Small enough for any thread.
-    const LIMIT: usize = 128 << 10;
+    const LIMIT: usize = 256 << 10;
 
     /// Making a row holds both sides' answers against each other. Few entries keep the Rust's beam short, and are as deep for the
     /// library.
