@@ -1,0 +1,228 @@
+// The commands, by the first word of a line. A line that cannot be served changes nothing.
+use crate::complaints;
+use crate::desk::Desk;
+use crate::fields;
+use crate::fields::Fields;
+use crate::goals;
+use crate::guests::Row;
+use crate::help;
+use crate::listing;
+use crate::numbers;
+use crate::numbers::Problem;
+use crate::print;
+use crate::refusals;
+use crate::rounds;
+use crate::rules;
+use crate::values::Kind;
+use crate::words;
+use crate::words::Heard;
+use base::Refusal;
+use check::same;
+use hall::Booking;
+use hall::Hall;
+use hall::Keyed;
+use roster::Observed;
+
+// Serves a line, unless it is blank or a comment.
+pub fn serve(desk: Desk, text: &[u8], number: u64) -> Desk {
+    let command = words::next(text, 0);
+    if command.is_end() {
+        return desk;
+    }
+    let heard = Heard {
+        number: number,
+        command: command,
+    };
+    let name = words::bytes_of(text, command);
+    if same(name, b"guest") {
+        return guest(desk, text, heard);
+    }
+    if same(name, b"book") {
+        return book(desk, text, heard);
+    }
+    if same(name, b"withdraw") {
+        return withdraw(desk, text, heard);
+    }
+    if same(name, b"greedy") {
+        return rounds::greedy(desk, text, heard);
+    }
+    if same(name, b"beam") {
+        return rounds::beam(desk, text, heard);
+    }
+    if same(name, b"full") {
+        return rounds::full(desk, text, heard);
+    }
+    settings(desk, text, heard, name)
+}
+
+// Commands for rules and goals, and the last one.
+fn settings(desk: Desk, text: &[u8], heard: Heard, name: &[u8]) -> Desk {
+    let rules = desk.rules;
+    let goals = desk.goals;
+    if same(name, b"rule") {
+        return desk.with_rules(rules::rule(rules, text, heard));
+    }
+    if same(name, b"rules") {
+        return desk.with_rules(rules::listed(rules, text, heard));
+    }
+    if same(name, b"goal") {
+        return desk.with_goals(goals::goal(goals, text, heard));
+    }
+    if same(name, b"goals") {
+        return desk.with_goals(goals::listed(goals, text, heard));
+    }
+    if same(name, b"quit") {
+        return quit(desk, text, heard);
+    }
+    let hall = desk.hall;
+    listings(hall, desk.seated, text, heard, name);
+    desk
+}
+
+fn quit(desk: Desk, text: &[u8], heard: Heard) -> Desk {
+    if fields::end(text, heard, heard.behind()) {
+        return desk.closed();
+    }
+    desk
+}
+
+// Commands that change nothing, and those that are none.
+fn listings(hall: Hall, seated: u64, text: &[u8], heard: Heard, name: &[u8]) {
+    if same(name, b"queue") {
+        listing::queue(hall.waiting, text, heard);
+        return;
+    }
+    if same(name, b"keys") {
+        listing::keys(hall.log, text, heard);
+        return;
+    }
+    if same(name, b"totals") {
+        listing::totals(hall, seated, text, heard);
+        return;
+    }
+    if same(name, b"help") {
+        help::help(text, heard);
+        return;
+    }
+    complaints::unknown(text, heard);
+}
+
+// ---- the roster
+
+const ROW: u32 = fields::RATING | fields::DEVIATION | fields::PARTY | fields::ROLE | fields::REGION;
+
+// `guest 12 rating 1510.5 ..`: the guest's number, then fields.
+fn guest(desk: Desk, text: &[u8], heard: Heard) -> Desk {
+    let number = words::next(text, heard.behind());
+    let read = numbers::whole(words::bytes_of(text, number), u64::MAX);
+    let problem = read.problem;
+    let Problem::Nothing = problem else {
+        complaints::value(
+            text,
+            heard,
+            Kind::Whole(u64::MAX),
+            problem,
+            heard.command,
+            number,
+        );
+        return desk;
+    };
+    let given = fields::read(text, heard, number.to, 0, ROW);
+    if !given.ok {
+        return desk;
+    }
+    note_row(desk, row_of(read.value, given))
+}
+
+// The row that the fields give: 0, and no region, where they give nothing.
+fn row_of(guest: u64, given: Fields) -> Row {
+    Row {
+        guest: guest,
+        rating: given.real(fields::RATING),
+        deviation: given.real(fields::DEVIATION),
+        party: given.whole(fields::PARTY),
+        role: half(given.whole(fields::ROLE)),
+        region: byte(given.whole_or(fields::REGION, 4)),
+    }
+}
+
+fn note_row(desk: Desk, row: Row) -> Desk {
+    let roster = desk.roster;
+    if roster.is_full_for(row.guest) {
+        refusals::refused(Refusal::OverLimit);
+        return desk;
+    }
+    if roster.has(row.guest) {
+        print::text(b"row replaced\n");
+    } else {
+        print::text(b"row added\n");
+    }
+    desk.with_roster(roster.with(row))
+}
+
+// A role's code, which is below 2^32.
+pub fn half(value: u64) -> u32 {
+    (value % 4294967296) as u32
+}
+
+// A region's code, which is below 5.
+pub fn byte(value: u64) -> u8 {
+    (value % 256) as u8
+}
+
+// ---- keyed calls
+
+const NEEDED: u32 = fields::KEY | fields::GUEST;
+
+const BOOKED: u32 = NEEDED | fields::JOINED;
+
+const BOOKING: u32 = BOOKED | fields::RATING | fields::PARTY | fields::ROLE;
+
+fn book(desk: Desk, text: &[u8], heard: Heard) -> Desk {
+    let given = fields::read(text, heard, heard.behind(), BOOKED, BOOKING);
+    if !given.ok {
+        return desk;
+    }
+    let guest = given.whole(fields::GUEST);
+    let roster = desk.roster;
+    let hall = desk.hall;
+    let rating = rating_of(given, roster.rating_of(guest));
+    let Observed::Of(rated) = rating else {
+        complaints::needs_rating(heard, guest);
+        return desk;
+    };
+    let booking = Booking {
+        player: guest,
+        joined: given.whole(fields::JOINED),
+        rating: rated,
+        party: given.whole_or(fields::PARTY, roster.party_of(guest)),
+        role: half(given.whole_or(fields::ROLE, roster.role_of(guest) as u64)),
+    };
+    told(desk, hall.book(given.whole(fields::KEY), booking))
+}
+
+// The rating that is given, or else the roster's.
+fn rating_of(given: Fields, rostered: Observed) -> Observed {
+    if given.has(fields::RATING) {
+        return Observed::Of(given.real(fields::RATING));
+    }
+    rostered
+}
+
+fn withdraw(desk: Desk, text: &[u8], heard: Heard) -> Desk {
+    let given = fields::read(text, heard, heard.behind(), NEEDED, NEEDED);
+    if !given.ok {
+        return desk;
+    }
+    let hall = desk.hall;
+    let key = given.whole(fields::KEY);
+    told(desk, hall.withdraw(key, given.whole(fields::GUEST)))
+}
+
+// Says the answer of a keyed call, and keeps its hall.
+fn told(desk: Desk, keyed: Keyed) -> Desk {
+    let hall = keyed.hall;
+    let answer = keyed.answer;
+    refusals::answer(answer);
+    desk.with_hall(hall)
+}

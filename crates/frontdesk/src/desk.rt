@@ -1,0 +1,68 @@
+// What the desk keeps in the evening.
+use crate::goals::Goals;
+use crate::guests::Roster;
+use constraint::Constraints;
+use hall::Hall;
+
+pub struct Desk {
+    pub hall: Hall,
+    pub roster: Roster,
+    // For the next full rounds.
+    pub rules: Constraints,
+    pub goals: Goals,
+    // Guests of every match that was handed out.
+    pub seated: u64,
+    // False after quit.
+    pub open: bool,
+}
+
+impl Desk {
+    // The evening begins.
+    pub fn fresh() -> Desk {
+        Desk {
+            hall: Hall::empty(),
+            roster: Roster::empty(),
+            rules: crate::rules::none(),
+            goals: Goals::none(),
+            seated: 0,
+            open: true,
+        }
+    }
+
+    pub fn with_hall(self, hall: Hall) -> Desk {
+        let mut next = self;
+        next.hall = hall;
+        next
+    }
+
+    pub fn with_roster(self, roster: Roster) -> Desk {
+        let mut next = self;
+        next.roster = roster;
+        next
+    }
+
+    pub fn with_rules(self, rules: Constraints) -> Desk {
+        let mut next = self;
+        next.rules = rules;
+        next
+    }
+
+    pub fn with_goals(self, goals: Goals) -> Desk {
+        let mut next = self;
+        next.goals = goals;
+        next
+    }
+
+    // So many guests more have been seated.
+    pub fn with_seated(self, guests: u64) -> Desk {
+        let mut next = self;
+        next.seated = std::num::wrapping_add_u64(self.seated, guests);
+        next
+    }
+
+    pub fn closed(self) -> Desk {
+        let mut next = self;
+        next.open = false;
+        next
+    }
+}

@@ -1,0 +1,51 @@
+// The commands in brief.
+use crate::fields;
+use crate::print;
+use crate::words::Heard;
+
+pub fn help(text: &[u8], heard: Heard) {
+    if fields::end(text, heard, heard.behind()) {
+        all();
+    }
+}
+
+fn all() {
+    print::text(b"one command a line; named fields in any order; what is in [ ] may be left out\n");
+    calls();
+    rounds();
+    others();
+}
+
+fn calls() {
+    print::text(b"  guest 12 [rating 1510.5] [deviation 80] [party 3] [role 2] [region EU]\n");
+    print::text(
+        b"      a guest's roster row, new or replaced; regions are NA EU Asia Other none\n",
+    );
+    print::text(b"  book key 7 guest 12 joined 30s [rating 1510.5] [party 3] [role 2]\n");
+    print::text(b"      rating, party and role are else those of the guest's row\n");
+    print::text(b"  withdraw key 8 guest 12\n");
+    print::text(
+        b"      each booking and withdrawal has a key of its own; a resend with its key is safe\n",
+    );
+}
+
+fn rounds() {
+    print::text(b"  greedy 5+5 at 120s\n");
+    print::text(
+        b"  beam 5+5 at 120s [width 8] [quality 1] [wait 0.5] [ping 0] [uncertainty 0.2]\n",
+    );
+    print::text(b"  full 2+2 at 120s\n");
+    print::text(b"      a full round holds to the rules and ranks by the goals that are set\n");
+    print::text(
+        b"  rule sizes 2+2    rule role 2 [at-least 1] [at-most 2]    rule regions EU NA\n",
+    );
+    print::text(b"  rule parties      rule latency      rules      rules none\n");
+    print::text(
+        b"  goal skill 1      goal latency 0.5      goal wait 0.3      goals      goals none\n",
+    );
+}
+
+fn others() {
+    print::text(b"  queue at 120s     keys      totals      help      quit\n");
+    print::text(b"      times are 90s, 1.5s or 90000000000ns; # starts a comment\n");
+}
