@@ -45,7 +45,7 @@ one-passed tried found many nan p x m i b e = rw (e, there found p, ← m, ← i
 -- ---- walk
 
 -- each choice is one more that was tried
-tried-one : (t : Terms) (b : SoFar) (m : MatchState) → weighed t b m .tried ≡ b .tried + 1
+pub tried-one : (t : Terms) (b : SoFar) (m : MatchState) → weighed t b m .tried ≡ b .tried + 1
 unfolding weighed
 tried-one t b m = pick (λ (x : SoFar). x .tried ≡ b .tried + 1) (passes t m) refl refl
 

@@ -54,6 +54,10 @@ passed b m score =
 abbrev pub skipped : SoFar → SoFar
 skipped b = record { tried = b .tried + 1; best = b .best; many = b .many; nan = b .nan }
 
+-- n more that do not change the best
+abbrev pub skippedBy : ℕ → SoFar → SoFar
+skippedBy n b = record { tried = b .tried + n; best = b .best; many = b .many; nan = b .nan }
+
 unfoldable pub weighed : Terms → SoFar → MatchState → SoFar
 weighed t b m = cond (passes t m) (passed b m (scoreIn t m)) (skipped b)
 

@@ -1,23 +1,29 @@
 // The best choice of a full round: every choice of the queue is tried, and the best of those that pass is kept.
 ghost use mathlib.Core.Path.{_≡_};
 ghost use mathlib.Core.Bool.{_&&_, _||_};
+ghost use mathlib.Core.Option.{Option·getD};
+ghost use lib.Dec.{ltb};
+ghost use lib.Ieee.{lt};
 ghost use Prim.Native.Nat.{_+_, _≤_, _<_, _^_};
 ghost use lib.ListN.{length, take, drop};
 ghost use Rattle.base.specs.Refusals.{refused, refusalNumber, checkedOf};
 ghost use Rattle.queue.specs.Queue.{queueOf};
-ghost use Rattle.roster.specs.Roster.{ofRules};
+ghost use Rattle.base.specs.Floats as Floats;
+ghost use Rattle.roster.specs.Roster.{ofRules, observedOf};
 ghost use Rattle.matchmaker.specs.Quality.{matchOf, seated};
 ghost use Rattle.seating.specs.Seating.{seatsOf};
 ghost use Rattle.candidate.specs.Choices.{ways};
 ghost use Rattle.candidate.specs.Walks.{through};
 ghost use Rattle.choice.specs.Full.{terms, choiceCheck, choiceRule, choiceOf};
-ghost use Rattle.choice.specs.Steps.{soFarOf, passed, skipped, weighed, unweighed, concluding};
+ghost use Rattle.choice.specs.Steps.{soFarOf, passed, skipped, skippedBy, weighed, unweighed, concluding};
+ghost use Rattle.choice.specs.Sums.{isSome, rostered, ratedAt, grown, sumsWith, scoreBy, noSums, Filling, idleAt, idleFrom};
 use base::Checked;
 use base::Refusal;
 use constraint::Constraints;
 use matchmaker::ProposedMatch;
 use objective::soft::SoftObjective;
 use queue::Queue;
+use roster::Observed;
 use seating::TeamComposition;
 
 // The best so far: the last of those that score highest, where one passed; how many were tried; did two or more pass, and did one
@@ -35,6 +41,13 @@ pub enum Verdict {
     Refused(Refusal),
     Nothing,
     Chosen,
+}
+
+// What the players of a choice are rated together: those of A, those of B, and all, A then B. A player without a row adds nothing.
+pub struct Sums {
+    pub a: f64,
+    pub b: f64,
+    pub all: f64,
 }
 
 // The match where one is chosen, and how many choices were tried.
@@ -102,6 +115,16 @@ fn skip(best: Best) -> Best
     next
 }
 
+// As many more that do not change the best.
+fn skip_all(best: Best, many: usize) -> Best
+    requires { ⌜ best .tried + many < 2 ^ 64 ⌝ }
+    ensures { λ r. ⌜ soFarOf r ≡ skippedBy many (soFarOf best) ⌝ }
+{
+    let mut next = best;
+    next.tried = best.tried + many as u64;
+    next
+}
+
 // One more choice.
 fn weigh(
     constraints: Constraints,
@@ -128,15 +151,309 @@ fn weigh(
     skip(best)
 }
 
-// Every choice of `left` of the `rest` players from `from` on, each seated behind those of `teams`, is weighed. It takes the first
-// player and then leaves it; the best so far passes through by value.
+// ---- what is read once: of the player at each place, is there a row, and which rating has it?
+
+// Was something observed?
+fn is_something(observed: Observed) -> bool
+    ensures { λ r. ⌜ r ≡ isSome (observedOf observed) ⌝ }
+{
+    match observed {
+        Observed::Of(_) => true,
+        Observed::Nothing => false,
+    }
+}
+
+// What was observed, or 0.0.
+fn or_zero(observed: Observed) -> f64
+    ensures { λ r. ⌜ r ≡ Option·getD (observedOf observed) Floats.zero ⌝ }
+{
+    match observed {
+        Observed::Of(x) => x,
+        Observed::Nothing => 0.0,
+    }
+}
+
+fn rows_of(queued: &[u64; 64], ids: &[u64], ratings: &[f64]) -> [bool; 64]
+    requires { ⌜ length (now queued) ≡ 64 ⌝ }
+    ensures { λ r. ⌜ r ≡ rostered (now (ids .entry)) (now (ratings .entry)) (now (queued .entry)) ⌝ }
+{
+    let mut out = [false; 64];
+    let mut i: usize = 0;
+    while i < 64 {
+        out[i] = is_something(roster::observation(ids, ratings, queued[i]));
+        i += 1;
+    }
+    out
+}
+
+fn ratings_of(queued: &[u64; 64], ids: &[u64], ratings: &[f64]) -> [f64; 64]
+    requires { ⌜ length (now queued) ≡ 64 ⌝ }
+    ensures { λ r. ⌜ r ≡ ratedAt (now (ids .entry)) (now (ratings .entry)) (now (queued .entry)) ⌝ }
+{
+    let mut out = [0.0; 64];
+    let mut i: usize = 0;
+    while i < 64 {
+        out[i] = or_zero(roster::observation(ids, ratings, queued[i]));
+        i += 1;
+    }
+    out
+}
+
+// ---- the score of a choice, from sums that grow with it
+
+// The sum with the rating of the player at a place, if there is a row.
+fn plus(sum: f64, row: bool, rating: f64) -> f64
+    ensures { λ r. ⌜ r ≡ grown row rating sum ⌝ }
+{
+    if row {
+        return sum + rating;
+    }
+    sum
+}
+
+// The sums with one more player, who joins A or B.
+fn sums_with(sums: Sums, first: bool, row: bool, rating: f64) -> Sums
+    ensures { λ r. ⌜ r ≡ sumsWith sums first row rating ⌝ }
+{
+    let all = plus(sums.all, row, rating);
+    if first {
+        return Sums {
+            a: plus(sums.a, row, rating),
+            b: sums.b,
+            all: all,
+        };
+    }
+    Sums {
+        a: sums.a,
+        b: plus(sums.b, row, rating),
+        all: all,
+    }
+}
+
+// The score of teams of these sums and lengths.
+fn score_of(objectives: [SoftObjective; 8], count: usize, sums: Sums, a: usize, b: usize) -> f64
+    requires { ⌜ (a ≤ 8) × (b ≤ 8) ⌝ }
+    ensures { λ r. ⌜ r ≡ scoreBy (take count objectives) sums a b ⌝ }
+{
+    let quality = matchmaker::quality_between(
+        matchmaker::average(sums.a, a),
+        matchmaker::average(sums.b, b),
+    );
+    let latency = objective::soft::latency_at(matchmaker::average(sums.all, a + b));
+    objective::soft::weighted_sum(objectives, count, quality, latency)
+}
+
+// Two or more passed, and the best of them scores higher: whether this one passes or not, the best so far stays as it is.
+fn is_idle(found: bool, many: bool, top: f64, score: f64) -> bool
+    ensures { λ r. ⌜ r ≡ (found && (many && lt score top)) ⌝ }
+{
+    let worse = score < top;
+    both(found, both(many, worse))
+}
+
+// Is every choice idle whose last seat goes to one of the `rest` players from `from` on?
+fn are_idle(
+    sizes: TeamComposition,
+    rows: &[bool; 64],
+    rated: &[f64; 64],
+    from: usize,
+    rest: usize,
+    sums: Sums,
+    first: bool,
+    objectives: [SoftObjective; 8],
+    count: usize,
+    found: bool,
+    many: bool,
+    top: f64,
+) -> bool
+    requires { ⌜ (sizes .a ≤ 8) × ((sizes .b ≤ 8) × (from + rest ≤ 64)) ⌝ }
+    ensures { λ r. ⌜ r ≡ idleFrom (idleAt (take count objectives) sizes (now (rows .entry)) (now (rated .entry)) sums first found many top) from rest ⌝ }
+{
+    let mut at = from;
+    let mut left = rest;
+    while 0 < left {
+        let next = sums_with(sums, first, rows[at], rated[at]);
+        let score = score_of(objectives, count, next, sizes.a, sizes.b);
+        if !is_idle(found, many, top, score) {
+            return false;
+        }
+        at += 1;
+        left -= 1;
+    }
+    true
+}
+
+// Does the next player join team A?
+fn is_a_short(sizes: TeamComposition, teams: ProposedMatch) -> bool
+    ensures { λ r. ⌜ r ≡ ltb (length (matchOf teams .a .players)) (sizes .a) ⌝ }
+{
+    let a = teams.a;
+    a.held() < sizes.a
+}
+
+// Does the next but one join team A?
+fn is_a_short_by_two(sizes: TeamComposition, teams: ProposedMatch) -> bool
+    requires { ⌜ length (matchOf teams .a .players) ≤ 8 ⌝ }
+    ensures { λ r. ⌜ r ≡ ltb (length (matchOf teams .a .players) + 1) (sizes .a) ⌝ }
+{
+    let a = teams.a;
+    a.held() + 1 < sizes.a
+}
+
+// ---- the walk through all choices
+
+// The last seat: it goes to each of the `rest` players from `from` on in turn. A choice that cannot change the best so far by its
+// score is only counted; the constraints are held against the others.
+fn seat_last(
+    sizes: TeamComposition,
+    queued: &[u64; 64],
+    rows: &[bool; 64],
+    rated: &[f64; 64],
+    from: usize,
+    rest: usize,
+    teams: ProposedMatch,
+    sums: Sums,
+    constraints: Constraints,
+    objectives: [SoftObjective; 8],
+    count: usize,
+    ids: &[u64],
+    ratings: &[f64],
+    parties: &[u64],
+    roles: &[u32],
+    regions: &[u8],
+    best: Best,
+) -> Best
+    requires { ⌜ (sizes .a ≤ 8) × ((sizes .b ≤ 8) × ((from + rest ≤ 64) × (length (seated (matchOf teams)) + 1 ≡ seatsOf sizes))) ⌝ }
+    requires { ⌜ length (now queued) ≡ 64 ⌝ }
+    requires { ⌜ best .tried + rest < 2 ^ 64 ⌝ }
+    requires { ⌜ (now rows ≡ rostered (now ids) (now ratings) (now queued)) × (now rated ≡ ratedAt (now ids) (now ratings) (now queued)) ⌝ }
+    requires { ⌜ Filling (ofRules (now ids) (now ratings) (now parties) (now roles) (now regions)) sizes (matchOf teams) sums ⌝ }
+    ensures { λ r. ⌜ soFarOf r ≡ through sizes (weighed (terms (ofRules (now (ids .entry)) (now (ratings .entry)) (now (parties .entry)) (now (roles .entry)) (now (regions .entry))) constraints objectives count)) (matchOf teams) 1 (take rest (drop from (now (queued .entry)))) (soFarOf best) ⌝ }
+{
+    let first = is_a_short(sizes, teams);
+    let mut out = best;
+    let mut at = from;
+    let mut left = rest;
+    while 0 < left {
+        let next = sums_with(sums, first, rows[at], rated[at]);
+        let score = score_of(objectives, count, next, sizes.a, sizes.b);
+        if is_idle(out.found, out.many, out.score, score) {
+            out = skip(out);
+            at += 1;
+            left -= 1;
+        } else {
+            let full = candidate::exhaustive::seat(sizes, teams, queued[at]);
+            out = weigh(
+                constraints,
+                objectives,
+                count,
+                ids,
+                ratings,
+                parties,
+                roles,
+                regions,
+                out,
+                full,
+            );
+            at += 1;
+            left -= 1;
+        }
+    }
+    out
+}
+
+// The last two seats: each of the `rest` players from `from` on takes the first of them in turn. Where every choice with that player
+// is idle, they are only counted.
+fn seat_two(
+    sizes: TeamComposition,
+    queued: &[u64; 64],
+    rows: &[bool; 64],
+    rated: &[f64; 64],
+    from: usize,
+    rest: usize,
+    teams: ProposedMatch,
+    sums: Sums,
+    constraints: Constraints,
+    objectives: [SoftObjective; 8],
+    count: usize,
+    ids: &[u64],
+    ratings: &[f64],
+    parties: &[u64],
+    roles: &[u32],
+    regions: &[u8],
+    best: Best,
+) -> Best
+    requires { ⌜ (sizes .a ≤ 8) × ((sizes .b ≤ 8) × ((from + rest ≤ 64) × (length (seated (matchOf teams)) + 2 ≡ seatsOf sizes))) ⌝ }
+    requires { ⌜ length (now queued) ≡ 64 ⌝ }
+    requires { ⌜ best .tried + ways rest 2 < 2 ^ 64 ⌝ }
+    requires { ⌜ (now rows ≡ rostered (now ids) (now ratings) (now queued)) × (now rated ≡ ratedAt (now ids) (now ratings) (now queued)) ⌝ }
+    requires { ⌜ Filling (ofRules (now ids) (now ratings) (now parties) (now roles) (now regions)) sizes (matchOf teams) sums ⌝ }
+    ensures { λ r. ⌜ soFarOf r ≡ through sizes (weighed (terms (ofRules (now (ids .entry)) (now (ratings .entry)) (now (parties .entry)) (now (roles .entry)) (now (regions .entry))) constraints objectives count)) (matchOf teams) 2 (take rest (drop from (now (queued .entry)))) (soFarOf best) ⌝ }
+{
+    let first = is_a_short(sizes, teams);
+    let second = is_a_short_by_two(sizes, teams);
+    let mut out = best;
+    let mut at = from;
+    let mut behind = rest;
+    while 2 <= behind {
+        let next = sums_with(sums, first, rows[at], rated[at]);
+        if are_idle(
+            sizes,
+            rows,
+            rated,
+            at + 1,
+            behind - 1,
+            next,
+            second,
+            objectives,
+            count,
+            out.found,
+            out.many,
+            out.score,
+        ) {
+            out = skip_all(out, behind - 1);
+            at += 1;
+            behind -= 1;
+        } else {
+            let with = candidate::exhaustive::seat(sizes, teams, queued[at]);
+            out = seat_last(
+                sizes,
+                queued,
+                rows,
+                rated,
+                at + 1,
+                behind - 1,
+                with,
+                next,
+                constraints,
+                objectives,
+                count,
+                ids,
+                ratings,
+                parties,
+                roles,
+                regions,
+                out,
+            );
+            at += 1;
+            behind -= 1;
+        }
+    }
+    out
+}
+
+// Every choice of `left` of the `rest` players from `from` on, each seated behind those of `teams`, is weighed. It takes each player
+// in turn and goes on behind; the best so far passes through by value.
 fn walk(
     sizes: TeamComposition,
     queued: &[u64; 64],
+    rows: &[bool; 64],
+    rated: &[f64; 64],
     from: usize,
     rest: usize,
     left: usize,
     teams: ProposedMatch,
+    sums: Sums,
     constraints: Constraints,
     objectives: [SoftObjective; 8],
     count: usize,
@@ -150,6 +467,8 @@ fn walk(
     requires { ⌜ (sizes .a ≤ 8) × ((sizes .b ≤ 8) × ((from + rest ≤ 64) × (length (seated (matchOf teams)) + left ≡ seatsOf sizes))) ⌝ }
     requires { ⌜ length (now queued) ≡ 64 ⌝ }
     requires { ⌜ best .tried + ways rest left < 2 ^ 64 ⌝ }
+    requires { ⌜ (now rows ≡ rostered (now ids) (now ratings) (now queued)) × (now rated ≡ ratedAt (now ids) (now ratings) (now queued)) ⌝ }
+    requires { ⌜ Filling (ofRules (now ids) (now ratings) (now parties) (now roles) (now regions)) sizes (matchOf teams) sums ⌝ }
     ensures { λ r. ⌜ soFarOf r ≡ through sizes (weighed (terms (ofRules (now (ids .entry)) (now (ratings .entry)) (now (parties .entry)) (now (roles .entry)) (now (regions .entry))) constraints objectives count)) (matchOf teams) left (take rest (drop from (now (queued .entry)))) (soFarOf best) ⌝ }
 {
     if left == 0 {
@@ -166,44 +485,58 @@ fn walk(
             teams,
         );
     }
-    if rest < left {
-        return best;
+    if left == 2 {
+        return seat_two(
+            sizes,
+            queued,
+            rows,
+            rated,
+            from,
+            rest,
+            teams,
+            sums,
+            constraints,
+            objectives,
+            count,
+            ids,
+            ratings,
+            parties,
+            roles,
+            regions,
+            best,
+        );
     }
-    let with = candidate::exhaustive::seat(sizes, teams, queued[from]);
-    let mid = walk(
-        sizes,
-        queued,
-        from + 1,
-        rest - 1,
-        left - 1,
-        with,
-        constraints,
-        objectives,
-        count,
-        ids,
-        ratings,
-        parties,
-        roles,
-        regions,
-        best,
-    );
-    walk(
-        sizes,
-        queued,
-        from + 1,
-        rest - 1,
-        left,
-        teams,
-        constraints,
-        objectives,
-        count,
-        ids,
-        ratings,
-        parties,
-        roles,
-        regions,
-        mid,
-    )
+    let first = is_a_short(sizes, teams);
+    let mut out = best;
+    let mut at = from;
+    let mut behind = rest;
+    while left <= behind {
+        let with = candidate::exhaustive::seat(sizes, teams, queued[at]);
+        let next = sums_with(sums, first, rows[at], rated[at]);
+        out = walk(
+            sizes,
+            queued,
+            rows,
+            rated,
+            at + 1,
+            behind - 1,
+            left - 1,
+            with,
+            next,
+            constraints,
+            objectives,
+            count,
+            ids,
+            ratings,
+            parties,
+            roles,
+            regions,
+            out,
+        );
+        at += 1;
+        behind -= 1;
+    }
+    out
 }
 
 // No choice, for this refusal.
@@ -228,6 +561,17 @@ fn untried() -> Best
         many: false,
         nan: false,
         tried: 0,
+    }
+}
+
+// Nobody's sums.
+fn unsummed() -> Sums
+    ensures { λ r. ⌜ r ≡ noSums ⌝ }
+{
+    Sums {
+        a: 0.0,
+        b: 0.0,
+        all: 0.0,
     }
 }
 
@@ -325,13 +669,18 @@ pub fn best_choice(
     }
     let column = queue.players();
     let queued = column.ids;
+    let rows = rows_of(&queued, ids, ratings);
+    let rated = ratings_of(&queued, ids, ratings);
     let best = walk(
         sizes,
         &queued,
+        &rows,
+        &rated,
         0,
         queue.len,
         sizes.a + sizes.b,
         seating::nobody(),
+        unsummed(),
         constraints,
         objectives,
         count,

@@ -7,7 +7,7 @@ use native.Mathlib.Numerals.{add-one}
 use native.Mathlib.Omega.{arith}
 use borrow.Author.Tests.{ltb-true, lt-ltb, le-ltb, le-leb, lt-leb, eq-eqb, ne-eqb}
 use lib.Dec.{ltb, eqb}
-use lib.Ieee.{Float, nan, inf, binary64, add, div, lt, ofBits}
+use lib.Ieee.{Float, nan, inf, binary64, add, sub, div, lt, ofBits}
 use lib.ListN.{length, take, drop, getD, set, length-append, length-map, drop-of-length-le}
 use lib.Seq.{drop-cons, append-snoc, take-suc, take-all, length-take-le, drop-set-lt}
 use Rattle.base.specs.Floats as F
@@ -17,8 +17,7 @@ use Rattle.matchmaker.specs.Quality.{TeamState, MatchState, averageFrom}
 use Rattle.seating.specs.declared.TeamComposition.{TeamComposition}
 use Rattle.seating.specs.Seating.{team, MatchesState, gathered}
 use Rattle.search.specs.Turns.{alone, takesA, grown, complete, seatsLeft}
-use Rattle.search.specs.Greedy.{distance}
-use Rattle.search.specs.Steps.{Columns, Near, nearer, nearestPlace, marked, Fill, summed, picking, filling, Run, closing, anchoring, opening}
+use Rattle.search.specs.Steps.{Columns, Near, magnitudeOf, nearerFree, nearestPlace, struck, marked, Fill, summed, picking, filling, Run, closing, anchoring, opening}
 
 -- ---- arrays filled
 
@@ -87,47 +86,46 @@ pub endless : div binary64 F.one F.zero ≡ inf false
 unfolding div ofBits
 endless = refl
 
-module _ (reference : Float) (ratings : List Float) (used : List Bool) (i : ℕ) (best : Near) where
-  -- a used entry is passed over
-  pub near-used : getD used i false ≡ true → best ≡ nearer reference ratings used i best
-  unfolding nearer
-  near-used u = rw u
+-- the code's 0.0 / 0.0
+pub nobody : div binary64 F.zero F.zero ≡ nan
+unfolding div ofBits
+nobody = refl
 
-  module _ (free : getD used i false ≡ false) {d : Float} (e : d ≡ distance reference (getD ratings i nan)) where
-    -- a nearer one is kept
-    pub near-kept : lt d (best .distance) ≡ true → _≡_ {A = Near} (record { place = i; distance = d }) (nearer reference ratings used i best)
-    unfolding nearer
-    near-kept t = rw (free, ← e, t)
+module _ (reference : Float) (free : List Float) (i : ℕ) (best : Near) {d : Float} (e : d ≡ magnitudeOf (sub binary64 reference (getD free i nan))) where
+  -- a nearer one is kept
+  pub near-kept : lt d (best .distance) ≡ true → _≡_ {A = Near} (record { place = i; distance = d }) (nearerFree reference free i best)
+  unfolding nearerFree
+  near-kept t = rw (← e, t)
 
-    -- another isn't
-    pub near-left : lt d (best .distance) ≡ false → best ≡ nearer reference ratings used i best
-    unfolding nearer
-    near-left t = rw (free, ← e, t)
+  -- another isn't
+  pub near-left : lt d (best .distance) ≡ false → best ≡ nearerFree reference free i best
+  unfolding nearerFree
+  near-left t = rw (← e, t)
 
 -- ---- marks
 
-module _ (p : ℕ) (xs : List ℕ) (us : List Bool) (i : ℕ) {w : List Bool} (inv : take i us ++ marked p (drop i xs) (drop i us) ≡ w) where
-  mark-next : i < length xs → i < length us → marked p (drop i xs) (drop i us) ≡ cond (eqb (getD xs i 0) p) true (getD us i false) ∷ marked p (drop (i + 1) xs) (drop (i + 1) us)
-  unfolding marked
-  mark-next h k = rw (drop-cons xs i 0 h, drop-cons us i false k, add-one i)
+module _ {A : Type 0} (a d : A) (p : ℕ) (xs : List ℕ) (us : List A) (i : ℕ) {w : List A} (inv : take i us ++ struck a p (drop i xs) (drop i us) ≡ w) where
+  strike-next : i < length xs → i < length us → struck a p (drop i xs) (drop i us) ≡ cond (eqb (getD xs i 0) p) a (getD us i d) ∷ struck a p (drop (i + 1) xs) (drop (i + 1) us)
+  unfolding struck
+  strike-next h k = rw (drop-cons xs i 0 h, drop-cons us i d k, add-one i)
 
   -- a place of the player
-  pub mark-hit : i < length xs → i < length us → eqb (getD xs i 0) p ≡ true → take (i + 1) (set us i true) ++ marked p (drop (i + 1) xs) (drop (i + 1) (set us i true)) ≡ w
-  mark-hit h k t =
-      let n : marked p (drop i xs) (drop i us) ≡ true ∷ marked p (drop (i + 1) xs) (drop (i + 1) us) = mark-next h k ∙ rw t in
-      rw (push us i true k, drop-set-lt (i + 1) us i true (omega arith), append-snoc (take i us) true (marked p (drop (i + 1) xs) (drop (i + 1) us)), ← n) inv
+  pub strike-hit : i < length xs → i < length us → eqb (getD xs i 0) p ≡ true → take (i + 1) (set us i a) ++ struck a p (drop (i + 1) xs) (drop (i + 1) (set us i a)) ≡ w
+  strike-hit h k t =
+      let n : struck a p (drop i xs) (drop i us) ≡ a ∷ struck a p (drop (i + 1) xs) (drop (i + 1) us) = strike-next h k ∙ rw t in
+      rw (push us i a k, drop-set-lt (i + 1) us i a (omega arith), append-snoc (take i us) a (struck a p (drop (i + 1) xs) (drop (i + 1) us)), ← n) inv
 
   -- a place of another's
-  pub mark-miss : i < length xs → i < length us → eqb (getD xs i 0) p ≡ false → take (i + 1) us ++ marked p (drop (i + 1) xs) (drop (i + 1) us) ≡ w
-  mark-miss h k f =
-      let n : marked p (drop i xs) (drop i us) ≡ getD us i false ∷ marked p (drop (i + 1) xs) (drop (i + 1) us) = mark-next h k ∙ rw f in
-      let t : take (i + 1) us ≡ take i us ++ (getD us i false ∷ []) = rw (add-one i) (take-suc us i false k) in
-      rw (t, append-snoc (take i us) (getD us i false) (marked p (drop (i + 1) xs) (drop (i + 1) us)), ← n) inv
+  pub strike-miss : i < length xs → i < length us → eqb (getD xs i 0) p ≡ false → take (i + 1) us ++ struck a p (drop (i + 1) xs) (drop (i + 1) us) ≡ w
+  strike-miss h k f =
+      let n : struck a p (drop i xs) (drop i us) ≡ getD us i d ∷ struck a p (drop (i + 1) xs) (drop (i + 1) us) = strike-next h k ∙ rw f in
+      let t : take (i + 1) us ≡ take i us ++ (getD us i d ∷ []) = rw (add-one i) (take-suc us i d k) in
+      rw (t, append-snoc (take i us) (getD us i d) (struck a p (drop (i + 1) xs) (drop (i + 1) us)), ← n) inv
 
   -- all places are looked at
-  pub mark-end : length xs ≤ i → length us ≤ i → us ≡ w
-  unfolding marked
-  mark-end h k = sym (take-all i us k) ∙ sym (append-nil (take i us)) ∙ (rw (drop-of-length-le xs h) at inv)
+  pub strike-end : length xs ≤ i → length us ≤ i → us ≡ w
+  unfolding struck
+  strike-end h k = sym (take-all i us k) ∙ sym (append-nil (take i us)) ∙ (rw (drop-of-length-le xs h) at inv)
 
 -- ---- one anchor
 
@@ -148,6 +146,11 @@ module _ (s : TeamComposition) (players : List ℕ) (rostered : List Float) (f :
   pub picks-b : t ≡ false → _≡_ {A = Fill} (record { used = u; teams = m; sum = f .sum; reference = f .reference }) (picking s players rostered f at)
   unfolding picking
   picks-b e = rw (sym turn ∙ e, seats, marks)
+
+-- every place of the pick is marked
+pub pick-used : (s : TeamComposition) (players : List ℕ) (rostered : List Float) (f : Fill) (at : ℕ) → picking s players rostered f at .used ≡ marked (getD players at 0) players (f .used)
+unfolding picking
+pick-used s players rostered f at = cases (takesA s (f .teams)) (λ t. rw t) (λ t. rw t)
 
 module _ (s : TeamComposition) (c : Columns) (n : ℕ) where
   -- no seat is left
@@ -190,15 +193,11 @@ module _ (s : TeamComposition) (c : Columns) (n i : ℕ) (o : Run) where
 
     -- a match is formed, behind those before it
     pub anchor-forms : t ≡ true → {ms : List MatchState} → ms ≡ o .matches ++ (f .teams ∷ []) → _≡_ {A = Run} (record { used = f .used; matches = ms }) (anchoring s c n i o)
-    anchor-forms e {ms} h =
-        let k : ms ≡ closing s o f .matches = rw (sym whole ∙ e) h in
-        (λ j. record { used = f .used; matches = k j }) ∙ anchor-fills
+    anchor-forms e h = (λ j. record { used = f .used; matches = h j }) ∙ (rw (sym whole ∙ e) at anchor-fills)
 
     -- none is, and the marks stay
     pub anchor-ends : t ≡ false → _≡_ {A = Run} (record { used = f .used; matches = o .matches }) (anchoring s c n i o)
-    anchor-ends e =
-        let k : o .matches ≡ closing s o f .matches = rw (sym whole ∙ e) in
-        (λ j. record { used = f .used; matches = k j }) ∙ anchor-fills
+    anchor-ends e = rw (sym whole ∙ e) at anchor-fills
 
 -- the first n of an array are gathered: just these
 pub gathers : {A : Type 0} (f : A → MatchState) (es : List A) (n : ℕ) → n ≤ length es → _≡_ {A = MatchesState} (record { size = n; items = map f (take n es) }) (gathered (map f (take n es)))

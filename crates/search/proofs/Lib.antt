@@ -1,4 +1,5 @@
 pub mod Laws
+pub mod Free
 pub mod Plain
 pub mod Seating
 pub mod Picks
@@ -12,3 +13,7 @@ pub mod Named
 pub mod BeamSeats
 pub mod BeamLevels
 pub mod Sheets
+pub mod Slides
+pub mod Marks
+pub mod Scores
+pub mod Standings

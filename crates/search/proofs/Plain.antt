@@ -22,7 +22,7 @@ use Rattle.matchmaker.specs.Quality.{sumOf}
 use Rattle.seating.specs.declared.TeamComposition.{TeamComposition}
 use Rattle.search.specs.Turns.{seatsLeft, takesA, grown}
 use Rattle.search.specs.Greedy.{Filling, Search, distance, reach, closer, nearest, rosterRating, opened, picked, ifSome, filled, begun, settled, anchored, greedyMatches}
-use Rattle.search.specs.Steps.{Fill, Run, columns, nearer, marked, opening, picking, filling, closing, anchoring, unmarked, running}
+use Rattle.search.specs.Steps.{Fill, Run, columns, nearer, struck, marked, opening, picking, filling, closing, anchoring, unmarked, running}
 
 -- ---- lists
 
@@ -63,7 +63,7 @@ mark-one p x y u used e h = rw (e, h, eqb-sym p y)
 
 -- a player more is used, and every place of the player is marked
 marks-more : (p : ℕ) (used : List ℕ) (queue : List QueueEntry) (n : ℕ) (players : List ℕ) (us : List Bool) → take n players ≡ map (λ e. e .player) queue → take n us ≡ marks queue used → take n (marked p players us) ≡ marks queue (p ∷ used)
-unfolding marked
+unfolding struck
 marks-more p used [] n players us e h = go n players us e h
   where
     go : (n : ℕ) (players : List ℕ) (us : List Bool) → take n players ≡ [] → take n us ≡ [] → take n (marked p players us) ≡ []

@@ -3,3 +3,4 @@ pub mod Greedy
 pub mod Beam
 pub mod Steps
 pub mod Levels
+pub mod Expanding

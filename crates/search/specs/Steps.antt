@@ -3,7 +3,7 @@ use Prim.Native.Nat.{ℕ, zero, suc}
 use mathlib.Core.Bool.{Bool, true, false, cond}
 use mathlib.Core.List.{List, [], _∷_, _++_}
 use lib.Dec.{leb, eqb}
-use lib.Ieee.{Float, nan, inf, binary64, add, lt}
+use lib.Ieee.{Float, nan, inf, binary64, add, sub, neg, lt}
 use lib.ListN.{length, getD, replicate}
 use Rattle.base.specs.Floats as Floats
 use Rattle.base.specs.Lists.{times}
@@ -38,11 +38,36 @@ nearer reference ratings used i best =
 abbrev pub nearestPlace : Float → List Float → List Bool → ℕ → ℕ
 nearestPlace reference ratings used n = times (nearer reference ratings used) (record { place = n; distance = inf false }) n .place
 
+-- a column with a at every place of the player
+unfoldable pub struck : {A : Type 0} → A → ℕ → List ℕ → List A → List A
+struck a p [] us = []
+struck a p (x ∷ xs) [] = []
+struck a p (x ∷ xs) (u ∷ us) = cond (eqb x p) a u ∷ struck a p xs us
+
 -- the marks with every place of the player
-unfoldable pub marked : ℕ → List ℕ → List Bool → List Bool
-marked p [] us = []
-marked p (x ∷ xs) [] = []
-marked p (x ∷ xs) (u ∷ us) = cond (eqb x p) true u ∷ marked p xs us
+abbrev pub marked : ℕ → List ℕ → List Bool → List Bool
+marked = struck true
+
+-- the ratings of those who are free: NaN at every used place
+unfoldable pub freeOf : List Float → List Bool → List Float
+freeOf [] us = []
+freeOf (r ∷ rs) [] = r ∷ rs
+freeOf (r ∷ rs) (u ∷ us) = cond u nan r ∷ freeOf rs us
+
+-- a float without its sign, but that -0.0 stays
+unfoldable pub magnitudeOf : Float → Float
+magnitudeOf x = cond (lt x Floats.zero) (neg x) x
+
+-- of the nearest so far and the place i, by the ratings of those who are free
+unfoldable pub nearerFree : Float → List Float → ℕ → Near → Near
+nearerFree reference free i best =
+    cond (lt (magnitudeOf (sub binary64 reference (getD free i nan))) (best .distance))
+    (record { place = i; distance = magnitudeOf (sub binary64 reference (getD free i nan)) })
+    best
+
+-- the place of the nearest among the first n who are free, and n where there is none
+abbrev pub nearestFree : Float → List Float → ℕ → ℕ
+nearestFree reference free n = times (nearerFree reference free) (record { place = n; distance = inf false }) n .place
 
 pub record Fill : Type 0 where
   pub used : List Bool
@@ -50,8 +75,8 @@ pub record Fill : Type 0 where
   pub sum : Float
   pub reference : Float
 
-abbrev pub fillOf : Filling → Fill
-fillOf f = record { used = f .used; teams = matchOf (f .teams); sum = f .sum; reference = f .reference }
+abbrev pub fillOf : List Bool → Filling → Fill
+fillOf used f = record { used = used; teams = matchOf (f .teams); sum = f .sum; reference = f .reference }
 
 abbrev pub opening : Columns → List Bool → ℕ → Fill
 opening c used at =

@@ -2,7 +2,8 @@
 ghost use mathlib.Core.Path.{_≡_};
 ghost use mathlib.Core.List.{map};
 ghost use Prim.Native.Nat.{_≤_, _<_};
-ghost use lib.ListN.{length, take};
+ghost use lib.Ieee.{nan};
+ghost use lib.ListN.{length, take, getD};
 ghost use mathlib.Core.Option.{Option·getD};
 ghost use Rattle.base.specs.Floats as Floats;
 ghost use Rattle.base.specs.Refusals.{checkedOf};
@@ -10,7 +11,7 @@ ghost use Rattle.queue.specs.Queue.{queueOf};
 ghost use Rattle.roster.specs.Roster.{ofRatings, observedOf};
 ghost use Rattle.seating.specs.Seating.{Sheets, matchesOf, gathered, leaving};
 ghost use Rattle.search.specs.Greedy.{rosterRating, greedyMatches, greedyCheck, greedyRule};
-ghost use Rattle.search.specs.Steps.{columns, nearestPlace, marked, fillOf, opening, picking, filling, running, unmarked};
+ghost use Rattle.search.specs.Steps.{columns, magnitudeOf, nearestFree, struck, marked, freeOf, fillOf, opening, picking, filling, running, unmarked};
 ghost use Rattle.search.specs.Turns.{seatsLeft};
 use base::Checked;
 use base::Refusal;
@@ -21,9 +22,8 @@ use seating::Formed;
 use seating::Matches;
 use seating::TeamComposition;
 
-// The teams of an anchor while they fill: the marks of used places, A's running sum and the reference rating beside them.
+// The teams of an anchor while they fill, with A's running sum and the reference rating.
 pub struct Filling {
-    pub used: [bool; 64],
     pub teams: ProposedMatch,
     pub sum: f64,
     pub reference: f64,
@@ -75,47 +75,57 @@ pub(crate) fn rostered_of(players: &[u64; 64], n: usize, ids: &[u64], ratings: &
 
 // ---- one anchor
 
-// The place of the nearest unused entry among the first n, or n.
-fn pick_nearest(reference: f64, ratings: &[f64; 64], used: &[bool; 64], n: usize) -> usize
+// A float without its sign. A -0.0 stays, which no comparison tells from 0.0: with the test for it, as in base::abs, a branch
+// at each place would stand in the loop below.
+fn magnitude(x: f64) -> f64
+    ensures { λ r. ⌜ r ≡ magnitudeOf x ⌝ }
+{
+    if x < 0.0 {
+        return -x;
+    }
+    x
+}
+
+// The place of the nearest among the first n who are free, or n. Where somebody is used the rating is NaN, so it is never below.
+fn pick_nearest(reference: f64, free: &[f64; 64], n: usize) -> usize
     requires { ⌜ n ≤ 64 ⌝ }
-    ensures { λ r. ⌜ r ≡ nearestPlace reference (now (ratings .entry)) (now (used .entry)) n ⌝ }
+    ensures { λ r. ⌜ r ≡ nearestFree reference (now (free .entry)) n ⌝ }
 {
     let mut best = n;
     let mut smallest = 1.0 / 0.0;
     let mut i: usize = 0;
     while i < n {
-        if used[i] {
+        let distance = magnitude(reference - free[i]);
+        if distance < smallest {
+            best = i;
+            smallest = distance;
             i += 1;
         } else {
-            let distance = base::abs(reference - ratings[i]);
-            if distance < smallest {
-                best = i;
-                smallest = distance;
-                i += 1;
-            } else {
-                i += 1;
-            }
+            i += 1;
         }
     }
     best
 }
 
-// The marks with every place of the player.
-fn mark(players: &[u64; 64], used: [bool; 64], player: u64) -> [bool; 64]
+// Every place of the player is used, and free no longer.
+fn mark(players: &[u64; 64], used: &mut [bool; 64], free: &mut [f64; 64], player: u64)
     requires { ⌜ length (now players) ≡ 64 ⌝ }
-    ensures { λ r. ⌜ r ≡ marked player (now (players .entry)) used ⌝ }
+    requires { ⌜ length (now used) ≡ 64 ⌝ }
+    requires { ⌜ length (now free) ≡ 64 ⌝ }
+    ensures { λ _. ⌜ now (used .exit) ≡ marked player (now (players .entry)) (now (used .entry)) ⌝ }
+    ensures { λ _. ⌜ now (free .exit) ≡ struck nan player (now (players .entry)) (now (free .entry)) ⌝ }
 {
-    let mut out = used;
+    let nobody = 0.0 / 0.0;
     let mut i: usize = 0;
     while i < 64 {
         if players[i] == player {
-            out[i] = true;
+            used[i] = true;
+            free[i] = nobody;
             i += 1;
         } else {
             i += 1;
         }
     }
-    out
 }
 
 // The anchor at a place is used and opens team A.
@@ -123,16 +133,20 @@ fn open(
     players: &[u64; 64],
     ratings: &[f64; 64],
     rostered: &[f64; 64],
-    used: [bool; 64],
+    used: &mut [bool; 64],
+    free: &mut [f64; 64],
     at: usize,
 ) -> Filling
     requires { ⌜ at < 64 ⌝ }
     requires { ⌜ length (now players) ≡ 64 ⌝ }
-    ensures { λ r. ⌜ fillOf r ≡ opening (columns (now (players .entry)) (now (ratings .entry)) (now (rostered .entry))) used at ⌝ }
+    requires { ⌜ length (now used) ≡ 64 ⌝ }
+    requires { ⌜ length (now free) ≡ 64 ⌝ }
+    ensures { λ r. ⌜ fillOf (now (used .exit)) r ≡ opening (columns (now (players .entry)) (now (ratings .entry)) (now (rostered .entry))) (now (used .entry)) at ⌝ }
+    ensures { λ _. ⌜ now (free .exit) ≡ struck nan (getD (now (players .entry)) at 0) (now (players .entry)) (now (free .entry)) ⌝ }
 {
     let player = players[at];
+    mark(players, used, free, player);
     Filling {
-        used: mark(players, used, player),
         teams: crate::opened(player),
         sum: 0.0 + rostered[at],
         reference: ratings[at],
@@ -144,30 +158,32 @@ fn pick(
     sizes: TeamComposition,
     players: &[u64; 64],
     rostered: &[f64; 64],
+    used: &mut [bool; 64],
+    free: &mut [f64; 64],
     filling: Filling,
     at: usize,
 ) -> Filling
     requires { ⌜ (sizes .a ≤ 8) × ((sizes .b ≤ 8) × (at < 64)) ⌝ }
     requires { ⌜ length (now players) ≡ 64 ⌝ }
-    ensures { λ r. ⌜ fillOf r ≡ picking sizes (now (players .entry)) (now (rostered .entry)) (fillOf filling) at ⌝ }
+    requires { ⌜ length (now used) ≡ 64 ⌝ }
+    requires { ⌜ length (now free) ≡ 64 ⌝ }
+    ensures { λ r. ⌜ fillOf (now (used .exit)) r ≡ picking sizes (now (players .entry)) (now (rostered .entry)) (fillOf (now (used .entry)) filling) at ⌝ }
+    ensures { λ _. ⌜ now (free .exit) ≡ struck nan (getD (now (players .entry)) at 0) (now (players .entry)) (now (free .entry)) ⌝ }
 {
     let player = players[at];
-    let marks = filling.used;
-    let used = mark(players, marks, player);
+    mark(players, used, free, player);
     let before = filling.teams;
     let teams = crate::seat_next(sizes, before, player);
     if crate::takes_a(sizes, before) {
         let sum = filling.sum + rostered[at];
         let a = teams.a;
         return Filling {
-            used: used,
             teams: teams,
             sum: sum,
             reference: matchmaker::average(sum, a.held()),
         };
     }
     Filling {
-        used: used,
         teams: teams,
         sum: filling.sum,
         reference: filling.reference,
@@ -181,22 +197,27 @@ fn fill(
     ratings: &[f64; 64],
     rostered: &[f64; 64],
     n: usize,
-    used: [bool; 64],
+    used: &mut [bool; 64],
+    free: &mut [f64; 64],
     at: usize,
 ) -> Filling
     requires { ⌜ (sizes .a ≤ 8) × ((sizes .b ≤ 8) × ((n ≤ 64) × (at < 64))) ⌝ }
     requires { ⌜ length (now players) ≡ 64 ⌝ }
-    ensures { λ r. ⌜ fillOf r ≡ filling sizes (columns (now (players .entry)) (now (ratings .entry)) (now (rostered .entry))) n (seatsLeft sizes) (opening (columns (now (players .entry)) (now (ratings .entry)) (now (rostered .entry))) used at) ⌝ }
+    requires { ⌜ length (now ratings) ≡ 64 ⌝ }
+    requires { ⌜ length (now used) ≡ 64 ⌝ }
+    requires { ⌜ now free ≡ freeOf (now ratings) (now used) ⌝ }
+    ensures { λ r. ⌜ fillOf (now (used .exit)) r ≡ filling sizes (columns (now (players .entry)) (now (ratings .entry)) (now (rostered .entry))) n (seatsLeft sizes) (opening (columns (now (players .entry)) (now (ratings .entry)) (now (rostered .entry))) (now (used .entry)) at) ⌝ }
+    ensures { λ _. ⌜ length (now (used .exit)) ≡ 64 ⌝ }
+    ensures { λ _. ⌜ now (free .exit) ≡ freeOf (now (ratings .entry)) (now (used .exit)) ⌝ }
 {
-    let mut out = open(players, ratings, rostered, used, at);
+    let mut out = open(players, ratings, rostered, used, free, at);
     let mut left = crate::seats_left(sizes);
     while 0 < left {
-        let marks = out.used;
-        let next = pick_nearest(out.reference, ratings, &marks, n);
+        let next = pick_nearest(out.reference, free, n);
         if n <= next {
             return out;
         }
-        out = pick(sizes, players, rostered, out, next);
+        out = pick(sizes, players, rostered, used, free, out, next);
         left -= 1;
     }
     out
@@ -214,9 +235,11 @@ fn match_all(
 ) -> Matches
     requires { ⌜ (sizes .a ≤ 8) × ((sizes .b ≤ 8) × (n ≤ 64)) ⌝ }
     requires { ⌜ length (now players) ≡ 64 ⌝ }
+    requires { ⌜ length (now ratings) ≡ 64 ⌝ }
     ensures { λ r. ⌜ matchesOf r ≡ gathered (running sizes (columns (now (players .entry)) (now (ratings .entry)) (now (rostered .entry))) n unmarked .matches) ⌝ }
 {
     let mut used = [false; 64];
+    let mut free = *ratings;
     let mut items = [crate::opened(0); 64];
     let mut len: usize = 0;
     let mut i: usize = 0;
@@ -224,9 +247,17 @@ fn match_all(
         if used[i] {
             i += 1;
         } else {
-            let filled = fill(sizes, players, ratings, rostered, n, used, i);
+            let filled = fill(
+                sizes,
+                players,
+                ratings,
+                rostered,
+                n,
+                &mut used,
+                &mut free,
+                i,
+            );
             let teams = filled.teams;
-            used = filled.used;
             if crate::is_complete(sizes, teams) {
                 items[len] = teams;
                 len += 1;

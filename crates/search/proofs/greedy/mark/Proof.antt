@@ -1,24 +1,28 @@
--- The marks so far, with what the rest still gives.
+-- The marks so far, with what the rest still gives, and the same of who is free.
 use Prim.Native.Nat.{_-_, _≤_}
-use mathlib.Core.Path.{_≡_, refl}
+use mathlib.Core.Path.{_≡_, refl, ap, _∙_}
+use mathlib.Core.Bool.{true, false}
 use mathlib.Core.List.{_++_}
 use native.Mathlib.Omega.{arith}
 use borrow.Author.Tests.{eq-eqb, ne-eqb}
+use lib.Ieee.{Float, nan}
 use lib.ListN.{length, take, drop, length-set}
-use Rattle.search.specs.Steps.{marked}
-use Rattle.search.proofs.Laws.{mark-hit, mark-miss, mark-end}
+use Rattle.search.specs.Steps.{struck}
+use Rattle.search.proofs.Laws.{nobody, strike-hit, strike-miss, strike-end}
 use borrow.Author.Needs.{needs}
 use Rattle.search.proofs.greedy.mark.Statement.{statement}
 use Rattle.search.proofs.greedy.mark.Tie as tie
 
 abbrev Inv-loop : tie.InvT-loop
-Inv-loop players player out₀ i₀ out i = (i ≤ 64) × (length out ≡ 64) × (take i out ++ marked player (drop i players) (drop i out) ≡ marked player players out₀)
+Inv-loop players used₀ free₀ player nobody i₀ used free i =
+    (i ≤ 64) × (length used ≡ 64) × (length free ≡ 64) × (take i used ++ struck true player (drop i players) (drop i used) ≡ struck true player players used₀)
+    × (take i free ++ struck nobody player (drop i players) (drop i free) ≡ struck nobody player players free₀)
 
 abbrev μ-loop : tie.MeasureT-loop
-μ-loop players player out₀ i₀ out i = 64 - i
+μ-loop players used₀ free₀ player nobody i₀ used free i = 64 - i
 
 loop-holds : tie.Need-loop-holds Inv-loop μ-loop
-loop-holds c = (omega arith, search needs, refl)
+loop-holds c = (omega arith, search needs, search needs, refl, refl)
 
 mul-if1 : tie.Need-mul-if1 Inv-loop μ-loop
 mul-if1 c = search needs
@@ -26,8 +30,14 @@ mul-if1 c = search needs
 element-copy-out-if1 : tie.Need-element-copy-out-if1 Inv-loop μ-loop
 element-copy-out-if1 c = search needs
 
-array-write-out : tie.Need-array-write-out Inv-loop μ-loop
-array-write-out c = search needs
+element-write-used : tie.Need-element-write-used Inv-loop μ-loop
+element-write-used c = search needs
+
+mul-free : tie.Need-mul-free Inv-loop μ-loop
+mul-free c = search needs
+
+element-write-free : tie.Need-element-write-free Inv-loop μ-loop
+element-write-free c = search needs
 
 add-i : tie.Need-add-i Inv-loop μ-loop
 add-i c = search needs
@@ -39,7 +49,13 @@ loop-again : tie.Need-loop-again Inv-loop μ-loop
 loop-again c =
     let s = c .before .before .before .before .args in
     let l = c .before .before .before .loop in
-    (omega arith, simp length-set (l .inv .1), mark-hit (s .player) (s .players .now) (l .out) (l .i) (l .inv .2) (omega arith) (omega arith) (eq-eqb _ _ (c .if1 .taken)))
+    let t = eq-eqb _ _ (c .if1 .taken) in (
+      omega arith,
+      simp length-set (l .inv .1),
+      simp length-set (l .inv .2),
+      strike-hit true false (s .player) (s .players .now) (l .used) (l .i) (l .inv .3) (omega arith) (omega arith) t,
+      strike-hit _ nan (s .player) (s .players .now) (l .free) (l .i) (l .inv .4) (omega arith) (omega arith) t,
+    )
 
 add-i-2 : tie.Need-add-i-2 Inv-loop μ-loop
 add-i-2 c = search needs
@@ -51,13 +67,22 @@ loop-again-2 : tie.Need-loop-again-2 Inv-loop μ-loop
 loop-again-2 c =
     let s = c .before .before .before .before .args in
     let l = c .before .before .before .loop in
-    (omega arith, l .inv .1, mark-miss (s .player) (s .players .now) (l .out) (l .i) (l .inv .2) (omega arith) (omega arith) (ne-eqb _ _ (c .if1 .left)))
+    let f = ne-eqb _ _ (c .if1 .left) in (
+      omega arith,
+      l .inv .1,
+      l .inv .2,
+      strike-miss true false (s .player) (s .players .now) (l .used) (l .i) (l .inv .3) (omega arith) (omega arith) f,
+      strike-miss _ nan (s .player) (s .players .now) (l .free) (l .i) (l .inv .4) (omega arith) (omega arith) f,
+    )
 
 returns : tie.Need-returns Inv-loop μ-loop
 returns c =
     let s = c .before .before .args in
-    let l = c .before .loop in
-    mark-end (s .player) (s .players .now) (l .out) (l .i) (l .inv .2) (omega arith) (omega arith)
+    let l = c .before .loop in (
+      strike-end true false (s .player) (s .players .now) (l .used) (l .i) (l .inv .3) (omega arith) (omega arith),
+      strike-end _ nan (s .player) (s .players .now) (l .free) (l .i) (l .inv .4) (omega arith) (omega arith)
+          ∙ ap (λ (x : Float). struck x (s .player) (s .players .now) (s .free .now)) nobody,
+    )
 
 pub mark-spec : {M : Type 1} → statement M
 mark-spec =
@@ -68,7 +93,9 @@ mark-spec =
     loop-holds
     mul-if1
     element-copy-out-if1
-    array-write-out
+    element-write-used
+    mul-free
+    element-write-free
     add-i
     loop-less
     loop-again

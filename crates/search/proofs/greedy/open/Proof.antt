@@ -17,22 +17,23 @@ mark-requires c κs = search needs
 opened-requires : tie.Need-opened-requires
 opened-requires c κs = search needs
 
-mul-t7 : tie.Need-mul-t7
-mul-t7 c = search needs
+mul-t8 : tie.Need-mul-t8
+mul-t8 c = search needs
 
-element-copy-out-t15 : tie.Need-element-copy-out-t15
-element-copy-out-t15 c = search needs
+element-copy-out-t18 : tie.Need-element-copy-out-t18
+element-copy-out-t18 c = search needs
 
-mul-t17 : tie.Need-mul-t17
-mul-t17 c = search needs
+mul-t20 : tie.Need-mul-t20
+mul-t20 c = search needs
 
-element-copy-out-t20 : tie.Need-element-copy-out-t20
-element-copy-out-t20 c = search needs
+element-copy-out-t23 : tie.Need-element-copy-out-t23
+element-copy-out-t23 c = search needs
 
 returns : tie.Need-returns
 returns c =
-    let s = c .before .before .before .before .before .args in
-    opens (columns (s .players .now) (s .ratings .now) (s .rostered .now)) (s .used) (s .at) (c .before .before .before .mark .ensures) (c .before .before .opened .ensures)
+    let s = c .before .before .before .before .before .before .before .args in
+    let m = c .before .before .before .mark .ensures in
+    (opens (columns (s .players .now) (s .ratings .now) (s .rostered .now)) (s .used .now) (s .at) (m .0) (c .before .before .opened .ensures), m .1)
 
 pub open-spec : {M : Type 1} → statement M
 open-spec =
@@ -42,8 +43,8 @@ open-spec =
     element-copy-out-player
     mark-requires
     opened-requires
-    mul-t7
-    element-copy-out-t15
-    mul-t17
-    element-copy-out-t20
+    mul-t8
+    element-copy-out-t18
+    mul-t20
+    element-copy-out-t23
     returns)

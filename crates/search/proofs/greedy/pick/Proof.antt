@@ -34,13 +34,15 @@ average-requires c κs = search needs
 
 returns : tie.Need-returns
 returns c =
-    let s = c .before .before .before .before .before .before .before .before .before .before .before .before .args in
-    picks-a (s .sizes) (s .players .now) (s .rostered .now) (fillOf (s .filling)) (s .at) (c .before .before .before .before .before .before .before .before .before .mark .ensures) (c .before .before .before .before .before .before .before .seat-next .ensures) (c .before .before .before .before .before .before .takes-a .ensures) (c .before .before .before .before .before .if1 .taken) (c .before .held .ensures) (c .average .ensures)
+    let s = c .before .before .before .before .before .before .before .before .before .before .before .before .before .args in
+    let m = c .before .before .before .before .before .before .before .before .before .mark .ensures in
+    (picks-a (s .sizes) (s .players .now) (s .rostered .now) (fillOf (s .used .now) (s .filling)) (s .at) (m .0) (c .before .before .before .before .before .before .before .seat-next .ensures) (c .before .before .before .before .before .before .takes-a .ensures) (c .before .before .before .before .before .if1 .taken) (c .before .held .ensures) (c .average .ensures), m .1)
 
 returns-2 : tie.Need-returns-2
 returns-2 c =
-    let s = c .before .before .before .before .before .before .before .args in
-    picks-b (s .sizes) (s .players .now) (s .rostered .now) (fillOf (s .filling)) (s .at) (c .before .before .before .before .mark .ensures) (c .before .before .seat-next .ensures) (c .before .takes-a .ensures) (c .if1 .left)
+    let s = c .before .before .before .before .before .before .before .before .args in
+    let m = c .before .before .before .before .mark .ensures in
+    (picks-b (s .sizes) (s .players .now) (s .rostered .now) (fillOf (s .used .now) (s .filling)) (s .at) (m .0) (c .before .before .seat-next .ensures) (c .before .takes-a .ensures) (c .if1 .left), m .1)
 
 pub pick-spec : {M : Type 1} → statement M
 pick-spec =

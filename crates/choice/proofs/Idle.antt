@@ -1,0 +1,121 @@
+-- Choices that are idle are only counted.
+use Prim.Native.Nat.{ℕ, zero, suc, _+_, _-_, _≤_, _<_}
+use mathlib.Core.Path.{_≡_, refl, sym, ap, _∙_}
+use mathlib.Core.Bool.{Bool, true, false, not, cond, _&&_}
+use mathlib.Core.List.{List, [], _∷_, _++_}
+use mathlib.Core.Option.{none, some}
+use native.Mathlib.Numerals.{sub-one}
+use native.Mathlib.Omega.{arith}
+use borrow.Author.Tests.{lt-ltb, le-ltb, ltb-true, ltb-false}
+use lib.Dec.{ltb}
+use lib.Ieee.{Float, nan}
+use lib.ListN.{length, take, drop, getD, length-take, length-append}
+use Rattle.base.proofs.Cases.{cases, never}
+use Rattle.roster.specs.Roster.{ofRules}
+use Rattle.matchmaker.specs.Quality.{MatchState, seated}
+use Rattle.seating.specs.declared.TeamComposition.{TeamComposition}
+use Rattle.seating.specs.Seating.{seatsOf}
+use Rattle.candidate.specs.Walks.{seatedNext, through}
+use Rattle.candidate.proofs.Walking.{through-short}
+use Rattle.constraint.specs.declared.Constraints.{Constraints}
+use Rattle.objective.specs.declared.soft.SoftObjective.{SoftObjective}
+use Rattle.choice.specs.Full.{Terms, terms}
+use Rattle.choice.specs.Steps.{Part, SoFar, skipped, weighed}
+use Rattle.choice.specs.Sums.{rostered, ratedAt, Filling, idleAt, idleFrom}
+use Rattle.choice.specs.declared.Sums.{Sums}
+use Rattle.choice.proofs.Summing.{grown-read, last-score, idle-skipped}
+use Rattle.choice.proofs.Lasting.{last-next}
+
+-- both of two tests hold
+both-hold : (a b : Bool) → (a && b) ≡ true → (a ≡ true) × (b ≡ true)
+both-hold true b h = (refl, h)
+both-hold false b h = never cc
+
+not-true : (x : Bool) → not x ≡ true → x ≡ false
+not-true true h = never cc
+not-true false h = refl
+
+not-false : (x : Bool) → not x ≡ false → x ≡ true
+not-false true h = refl
+not-false false h = never cc
+
+-- ---- are_idle
+
+module _ (f : ℕ → Bool) (at left : ℕ) {v : Bool} (inv : idleFrom f at left ≡ v) where
+  -- the next is not idle
+  pub idle-not : {x : Bool} → 0 < left → x ≡ f at → not x ≡ true → false ≡ v
+  unfolding idleFrom
+  idle-not {x} h w y = go left h inv
+    where
+      go : (n : ℕ) → 0 < n → idleFrom f at n ≡ v → false ≡ v
+      go zero k i = absurd (omega arith)
+      go (suc n) k i = rw (sym w ∙ not-true x y) at i
+
+  -- the next is idle
+  pub idle-on : {x : Bool} → 0 < left → x ≡ f at → not x ≡ false → idleFrom f (at + 1) (left - 1) ≡ v
+  unfolding idleFrom
+  idle-on {x} h w y = go left h inv
+    where
+      go : (n : ℕ) → 0 < n → idleFrom f at n ≡ v → idleFrom f (at + 1) (n - 1) ≡ v
+      go zero k i = absurd (omega arith)
+      go (suc n) k i = rw sub-one (rw (sym w ∙ not-false x y) at i)
+
+  -- none is left
+  pub idle-end : left ≤ 0 → true ≡ v
+  unfolding idleFrom
+  idle-end h = go left h inv
+    where
+      go : (n : ℕ) → n ≤ 0 → idleFrom f at n ≡ v → true ≡ v
+      go zero k i = i
+      go (suc n) k i = absurd (omega arith)
+
+-- ---- what idle choices leave
+
+module _ (t : Terms) (s : TeamComposition) (q : List ℕ) (m : MatchState) (f : ℕ → Bool) (found many bad : Bool) (p : Part) where
+  -- the best so far when so many were tried
+  abbrev kept : ℕ → SoFar
+  kept tried = record { tried = tried; best = cond found (some p) none; many = many; nan = bad }
+
+  -- choices that are each idle are only counted
+  pub all-idle : ((i tried : ℕ) → i < length q → f i ≡ true → skipped (kept tried) ≡ weighed t (kept tried) (seatedNext s m (getD q i 0))) → (n at tried : ℕ) → at + n ≤ length q → idleFrom f at n ≡ true
+      → kept (tried + n) ≡ through s (weighed t) m 1 (take n (drop at q)) (kept tried)
+  unfolding idleFrom
+  all-idle each zero at tried h e =
+      ap kept (omega arith) ∙ through-short s (weighed t) m 1 (take 0 (drop at q)) (kept tried) (omega (arith, length-take 0 (drop at q)))
+  all-idle each (suc n) at tried h e =
+      let k = both-hold (f at) (idleFrom f (at + 1) n) e in
+      let z : suc n - 1 ≡ n = omega arith in
+      let g = last-next s (weighed t) q m at (suc n) (kept tried) refl (omega arith) h refl (each at tried (omega arith) (k .0)) in
+      ap kept (omega arith) ∙ all-idle each n (at + 1) (tried + 1) (omega arith) (k .1) ∙ (rw z at g)
+
+-- ---- the next player but one
+
+-- joins A where A is short by two
+pub short-by-two : (s : TeamComposition) (m : MatchState) (p : ℕ) → s .a ≤ 8 → ltb (length (m .a .players) + 1) (s .a) ≡ ltb (length (seatedNext s m p .a .players)) (s .a)
+unfolding seatedNext
+short-by-two s m p a =
+    cases (ltb (length (m .a .players)) (s .a))
+    (λ t.
+    let k : length (m .a .players) < s .a = ltb-true (length (m .a .players)) (s .a) t in
+    rw (t, lt-ltb (length (m .a .players)) 8 (omega arith), length-append (m .a .players) (p ∷ [])))
+    (λ f.
+    let k : s .a ≤ length (m .a .players) = ltb-false (length (m .a .players)) (s .a) f in
+    rw (f, f) (le-ltb (length (m .a .players) + 1) (s .a) (omega arith)))
+
+-- ---- seat_two
+
+-- the choices with the player at a place, whose last seats are all idle
+module _ (ids : List ℕ) (ratings : List Float) (parties roles regions : List ℕ) (c : Constraints) (objectives : List SoftObjective) (count : ℕ) (s : TeamComposition) (q : List ℕ) (a : s .a ≤ 8) (b : s .b ≤ 8) where
+  pub two-idle : (m : MatchState) (x : Sums) (first found many bad : Bool) (p : Part) (rows : List Bool) (rated : List Float) (at n tried : ℕ) {idle : Bool} → rows ≡ rostered ids ratings q → rated ≡ ratedAt ids ratings q
+      → Filling (ofRules ids ratings parties roles regions) s m x → length (seated m) + 1 ≡ seatsOf s → first ≡ ltb (length (m .a .players)) (s .a)
+      → at + n ≤ length q → idle ≡ idleFrom (idleAt (take count objectives) s rows rated x first found many (p .score)) at n → idle ≡ true
+      → _≡_ {A = SoFar} (record { tried = tried + n; best = cond found (some p) none; many = many; nan = bad })
+      (through s (weighed (terms (ofRules ids ratings parties roles regions) c objectives count)) m 1 (take n (drop at q)) (record { tried = tried; best = cond found (some p) none; many = many; nan = bad }))
+  two-idle m x first found many bad p rows rated at n tried e g fills h k l i j =
+      let r = ofRules ids ratings parties roles regions in
+      let t = terms r c objectives count in
+      all-idle t s q m (idleAt (take count objectives) s rows rated x first found many (p .score)) found many bad p
+      (λ y tr w z.
+      idle-skipped t (seatedNext s m (getD q y 0)) tr found many bad p
+      (last-score r s m x (getD q y 0) (take count objectives) (getD rows y false) first (getD rated y nan) (grown-read ids ratings q y w e g) fills a b h k) refl z)
+      n at tried l (sym i ∙ j)
