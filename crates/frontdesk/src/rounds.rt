@@ -85,7 +85,7 @@ fn greedy_round(desk: Desk, sizes: TeamComposition, clock: u64) -> Desk {
         &mut players,
         &mut qualities,
     );
-    seated(desk, rounded, sizes, clock, true, &players, &qualities)
+    seated(desk, rounded, sizes, clock, &players)
 }
 
 pub fn beam(desk: Desk, text: &[u8], heard: Heard) -> Desk {
@@ -126,7 +126,7 @@ fn beam_round(
         &mut players,
         &mut qualities,
     );
-    seated(desk, rounded, sizes, clock, true, &players, &qualities)
+    seated(desk, rounded, sizes, clock, &players)
 }
 
 // The beam round with the roster's columns lent.
@@ -186,7 +186,7 @@ fn full_round(desk: Desk, sizes: TeamComposition, clock: u64) -> Desk {
         &mut players,
         &mut qualities,
     );
-    let next = seated(desk, rounded, sizes, clock, false, &players, &qualities);
+    let next = seated(desk, rounded, sizes, clock, &players);
     tell_tried(rounded);
     next
 }
@@ -249,9 +249,7 @@ fn seated(
     rounded: Rounded,
     sizes: TeamComposition,
     clock: u64,
-    rated: bool,
     players: &[u64],
-    qualities: &[f64],
 ) -> Desk {
     let answer = rounded.answer;
     let hall = rounded.hall;
@@ -261,7 +259,7 @@ fn seated(
             desk
         }
         Formed::Count(count) => {
-            let guests = tables::print(desk, sizes, clock, count, rated, players, qualities);
+            let guests = tables::print(desk, sizes, clock, count, players);
             let next = desk.with_hall(hall);
             next.with_seated(guests)
         }

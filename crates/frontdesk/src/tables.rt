@@ -3,6 +3,7 @@ use crate::counts;
 use crate::desk::Desk;
 use crate::guests::Roster;
 use crate::print;
+use matchmaker::ProposedMatch;
 use matchmaker::Team;
 use queue::Queue;
 use queue::Waited;
@@ -22,13 +23,6 @@ fn guest_at(players: &[u64], at: usize) -> u64 {
         return players[at];
     }
     0
-}
-
-fn quality_at(qualities: &[f64], at: usize) -> f64 {
-    if at < qualities.len() {
-        return qualities[at];
-    }
-    0.0
 }
 
 // The roster's rating, and - where the guest has no row.
@@ -57,8 +51,8 @@ fn guest(before: Before, player: u64) {
     print::text(b"\n");
 }
 
-// The team of `size` guests from `at` on, a line for each.
-fn guests(before: Before, players: &[u64], at: usize, size: usize) -> Team {
+// The team of `size` guests from a place of the sheet on.
+fn team_at(players: &[u64], at: usize, size: usize) -> Team {
     let mut team = Team {
         players: [0; 8],
         len: 0,
@@ -66,11 +60,21 @@ fn guests(before: Before, players: &[u64], at: usize, size: usize) -> Team {
     let mut i: usize = 0;
     while i < size {
         let player = guest_at(players, std::num::wrapping_add_usize(at, i));
-        guest(before, player);
         team = seating::joined(team, player);
         i += 1;
     }
     team
+}
+
+// The team's guests, a line for each.
+fn guests(before: Before, team: Team) {
+    let n = team.held();
+    let players = team.players;
+    let mut i: usize = 0;
+    while i < n {
+        guest(before, guest_at(&players, i));
+        i += 1;
+    }
 }
 
 // A team's average rating, as its quality reads it.
@@ -85,48 +89,48 @@ fn average(roster: Roster, team: Team) {
 }
 
 // A team's head, guests and average.
-fn team(before: Before, name: u8, players: &[u64], at: usize, size: usize) {
+fn team(before: Before, name: u8, team: Team) {
     let roster = before.roster;
     print::text(b"  team ");
     print::byte(name);
     print::text(b"      guest      rating      waited\n");
-    let team = guests(before, players, at, size);
+    guests(before, team);
     average(roster, team);
 }
 
-// `table 1: quality 0.7500`; a full round gives no quality.
-fn head(number: usize, rated: bool, quality: f64) {
+// How even the teams are. It is worked out here for every table alike: on a full round's sheet stands 0.0, on the others this.
+fn quality(roster: Roster, a: Team, b: Team) -> f64 {
+    let ids = roster.ids;
+    let ratings = roster.ratings;
+    let n = counts::wholes(roster.rows, &ids);
+    let m = counts::reals(roster.rows, &ratings);
+    let seated = ProposedMatch { a: a, b: b };
+    seated.rated_quality(&ids[..n], &ratings[..m])
+}
+
+// `table 1: quality 0.7500`, and both teams.
+fn table(before: Before, number: usize, a: Team, b: Team) {
+    let roster = before.roster;
     print::text(b"table ");
     io::print_decimal(1, number as u64);
-    if rated {
-        print::text(b": quality ");
-        print::real(quality, 4, 0);
-    }
+    print::text(b": quality ");
+    print::real(quality(roster, a, b), 4, 0);
     print::text(b"\n");
+    team(before, b'A', a);
+    team(before, b'B', b);
 }
 
 // The tables one after another, and how many guests they seat.
-fn each(
-    before: Before,
-    sizes: TeamComposition,
-    count: usize,
-    rated: bool,
-    players: &[u64],
-    qualities: &[f64],
-) -> u64 {
+fn each(before: Before, sizes: TeamComposition, count: usize, players: &[u64]) -> u64 {
     let a = sizes.a;
     let b = sizes.b;
     let mut at: usize = 0;
     let mut i: usize = 0;
     while i < count {
         let middle = std::num::wrapping_add_usize(at, a);
-        head(
-            std::num::wrapping_add_usize(i, 1),
-            rated,
-            quality_at(qualities, i),
-        );
-        team(before, b'A', players, at, a);
-        team(before, b'B', players, middle, b);
+        let first = team_at(players, at, a);
+        let second = team_at(players, middle, b);
+        table(before, std::num::wrapping_add_usize(i, 1), first, second);
         at = std::num::wrapping_add_usize(middle, b);
         i += 1;
     }
@@ -134,15 +138,7 @@ fn each(
 }
 
 // Every table, or that there is none, and how many guests they seat.
-pub fn print(
-    desk: Desk,
-    sizes: TeamComposition,
-    clock: u64,
-    count: usize,
-    rated: bool,
-    players: &[u64],
-    qualities: &[f64],
-) -> u64 {
+pub fn print(desk: Desk, sizes: TeamComposition, clock: u64, count: usize, players: &[u64]) -> u64 {
     let hall = desk.hall;
     let waiting = hall.waiting;
     let roster = desk.roster;
@@ -154,5 +150,5 @@ pub fn print(
     if count == 0 {
         print::text(b"no table\n");
     }
-    each(before, sizes, count, rated, players, qualities)
+    each(before, sizes, count, players)
 }

@@ -5,10 +5,10 @@ use Rattle.frontdesk.proofs.tables.each.Statement.{statement}
 use Rattle.frontdesk.proofs.tables.each.Tie as tie
 
 abbrev Inv-loop : tie.InvT-loop
-Inv-loop before count rated players qualities a b at₀ i₀ at i = Unit {0}
+Inv-loop before count players a b at₀ i₀ at i = Unit {0}
 
 abbrev μ-loop : tie.MeasureT-loop
-μ-loop before count rated players qualities a b at₀ i₀ at i = count - i
+μ-loop before count players a b at₀ i₀ at i = count - i
 
 loop-holds : tie.Need-loop-holds Inv-loop μ-loop
 loop-holds c = tt
@@ -16,20 +16,17 @@ loop-holds c = tt
 wrapping-add-usize-requires : tie.Need-wrapping-add-usize-requires Inv-loop μ-loop
 wrapping-add-usize-requires c κs = search needs
 
+team-at-requires : tie.Need-team-at-requires Inv-loop μ-loop
+team-at-requires c κs = search needs
+
+team-at-requires-2 : tie.Need-team-at-requires-2 Inv-loop μ-loop
+team-at-requires-2 c κs = search needs
+
 wrapping-add-usize-requires-2 : tie.Need-wrapping-add-usize-requires-2 Inv-loop μ-loop
 wrapping-add-usize-requires-2 c κs = search needs
 
-quality-at-requires : tie.Need-quality-at-requires Inv-loop μ-loop
-quality-at-requires c κs = search needs
-
-head-requires : tie.Need-head-requires Inv-loop μ-loop
-head-requires c κs = search needs
-
-team-requires : tie.Need-team-requires Inv-loop μ-loop
-team-requires c κs = search needs
-
-team-requires-2 : tie.Need-team-requires-2 Inv-loop μ-loop
-team-requires-2 c κs = search needs
+table-requires : tie.Need-table-requires Inv-loop μ-loop
+table-requires c κs = search needs
 
 wrapping-add-usize-requires-3 : tie.Need-wrapping-add-usize-requires-3 Inv-loop μ-loop
 wrapping-add-usize-requires-3 c κs = search needs
@@ -54,11 +51,10 @@ each-spec =
     μ-loop
     loop-holds
     wrapping-add-usize-requires
+    team-at-requires
+    team-at-requires-2
     wrapping-add-usize-requires-2
-    quality-at-requires
-    head-requires
-    team-requires
-    team-requires-2
+    table-requires
     wrapping-add-usize-requires-3
     add-i
     loop-less

@@ -5,25 +5,25 @@ use Rattle.frontdesk.proofs.tables.guests.Statement.{statement}
 use Rattle.frontdesk.proofs.tables.guests.Tie as tie
 
 abbrev Inv-loop : tie.InvT-loop
-Inv-loop before players at size team₀ i₀ team i = Unit {0}
+Inv-loop before n players i₀ i = Unit {0}
 
 abbrev μ-loop : tie.MeasureT-loop
-μ-loop before players at size team₀ i₀ team i = size - i
+μ-loop before n players i₀ i = n - i
+
+held-requires : tie.Need-held-requires Inv-loop μ-loop
+held-requires c κs = search needs
 
 loop-holds : tie.Need-loop-holds Inv-loop μ-loop
 loop-holds c = tt
 
-wrapping-add-usize-requires : tie.Need-wrapping-add-usize-requires Inv-loop μ-loop
-wrapping-add-usize-requires c κs = search needs
+slice-aggregate-guest-at : tie.Need-slice-aggregate-guest-at Inv-loop μ-loop
+slice-aggregate-guest-at c = search needs
 
 guest-at-requires : tie.Need-guest-at-requires Inv-loop μ-loop
 guest-at-requires c κs = search needs
 
 guest-requires : tie.Need-guest-requires Inv-loop μ-loop
 guest-requires c κs = search needs
-
-joined-requires : tie.Need-joined-requires Inv-loop μ-loop
-joined-requires c κs = search needs
 
 add-i : tie.Need-add-i Inv-loop μ-loop
 add-i c = search needs
@@ -43,11 +43,11 @@ guests-spec =
     (tie.spec
     Inv-loop
     μ-loop
+    held-requires
     loop-holds
-    wrapping-add-usize-requires
+    slice-aggregate-guest-at
     guest-at-requires
     guest-requires
-    joined-requires
     add-i
     loop-less
     loop-again
