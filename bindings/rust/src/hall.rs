@@ -113,6 +113,28 @@ impl Hall {
     }
 
     /// The best by the soft objectives among all choices that meet the constraints, the last of equal best; the seated leave.
+    ///
+    /// A table needs a healer here, and the most even one is wished for:
+    ///
+    /// ```
+    /// use yilgashe::{Booking, Constraints, Hall, Refusal, RoleRequirement, Roster, Row, SoftObjective, TeamComposition};
+    ///
+    /// const HEALER: u32 = 1;
+    /// let mut hall = Hall::new();
+    /// let mut rows = Vec::new();
+    /// for (player, rating, role) in [(5, 1150.0, 0), (6, 1180.0, 0), (7, 1300.0, HEALER)] {
+    ///     hall.book(player, Booking { player, rating, role, ..Booking::default() })?;
+    ///     rows.push(Row { player, rating, role, ..Row::default() });
+    /// }
+    /// let roster: Roster = rows.into_iter().collect();
+    /// let healer = RoleRequirement { role: HEALER, least: 1, most: None };
+    /// let rules = Constraints { roles: Some(vec![healer]), ..Constraints::default() };
+    /// let round = hall.full_round(TeamComposition { a: 1, b: 1 }, &rules, &[SoftObjective::Skill(1.0)], 0, &roster)?;
+    /// assert_eq!(round.tried, 3);
+    /// let table = round.matches.iter().next().unwrap();
+    /// assert_eq!((table.team_a, table.team_b), (&[6][..], &[7][..]));
+    /// # Ok::<(), Refusal>(())
+    /// ```
     pub fn full_round(
         &mut self,
         sizes: TeamComposition,
