@@ -24,6 +24,7 @@ pub const ROWS: &[fn(u64) -> Row] = &[
     |seed| nearest::row(seed, Scene::of(64, (5, 5))).target(2.0),
     |seed| seated::quality(seed, Scene::of(64, (5, 5))).target(1.0),
     |seed| seated::score(seed, Scene::of(64, (5, 5))).target(1.0),
+    |seed| round::alike(seed, Scene::of(20, (5, 5))),
     |seed| seated::quality(seed, Scene::of(64, (5, 5)).unsorted()),
     |seed| seated::score(seed, Scene::of(64, (5, 5)).unsorted()),
     booking::row,

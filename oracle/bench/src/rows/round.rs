@@ -26,7 +26,15 @@ const OTHER: u8 = 3;
 pub fn row(seed: u64, scene: Scene) -> Row {
     Row::of(
         format!("full round, {scene}"),
-        vec![Round::drawn(seed, scene)],
+        vec![Round::drawn(seed, scene, objectives())],
+    )
+}
+
+/// With the wait alone, which scores every choice alike: the library's worst case, since no score spares a constraint.
+pub fn alike(seed: u64, scene: Scene) -> Row {
+    Row::of(
+        format!("full round, {scene}, equal scores"),
+        vec![Round::drawn(seed, scene, wait())],
     )
 }
 
@@ -45,7 +53,7 @@ pub struct Round {
 
 impl Round {
     /// Two guests are friends; two others come from regions that may not meet.
-    pub fn drawn(seed: u64, scene: Scene) -> Self {
+    pub fn drawn(seed: u64, scene: Scene, objectives: SoftObjectives) -> Self {
         let mut rng = Rng::for_case(seed, "round", 0);
         let mut crowd = Crowd::drawn(&mut rng, &scene);
         let mut rows: Vec<usize> = (0..scene.entries).collect();
@@ -56,7 +64,7 @@ impl Round {
         crowd.roster.regions[rows[3]] = OTHER;
         crowd.roster.regions[rows[4]] = 1;
         crowd.roster.regions[rows[5]] = 1;
-        let (sizes, objectives) = (scene.sizes(), objectives());
+        let sizes = scene.sizes();
         let constraints = constraints(&sizes);
         Round {
             queue: crowd.queue,
@@ -184,5 +192,14 @@ fn objectives() -> SoftObjectives {
         kinds: [0, 1, 2, 0, 0, 0, 0, 0],
         weights: [1.0, 0.3, 0.8, 0.0, 0.0, 0.0, 0.0, 0.0],
         len: 3,
+    }
+}
+
+/// Wait alone.
+fn wait() -> SoftObjectives {
+    SoftObjectives {
+        kinds: [2, 0, 0, 0, 0, 0, 0, 0],
+        len: 1,
+        ..objectives()
     }
 }
