@@ -1,24 +1,27 @@
--- The roster's laws: ascending ids are all different, what a column says of a player, and the turns of the loops.
-use Prim.Native.Nat.{ℕ, suc, _+_, _≤_, _<_}
-use mathlib.Core.Path.{_≡_, refl, sym, _∙_}
+-- The roster's laws: ascending ids are all different, what a column says of a player and in a row, and the turns of the loops.
+use Prim.Native.Nat.{ℕ, zero, suc, _+_, _≤_, _<_, min}
+use mathlib.Core.Path.{_≡_, refl, sym, ap, _∙_}
 use mathlib.Core.Bool.{Bool, true, false, cond, _&&_}
-use mathlib.Core.List.{List, [], _∷_}
+use mathlib.Core.List.{List, [], _∷_, _++_, map}
 use mathlib.Core.Option.{none, some}
 use native.Mathlib.Numerals.{add-one}
 use native.Mathlib.Nat.{le-of-suc-le-suc, not-suc-le-zero}
 use native.Mathlib.Omega.{arith}
-use borrow.Author.Tests.{lt-ltb, le-ltb, ltb-true, ne-eqb}
+use borrow.Author.Tests.{lt-ltb, le-ltb, ltb-true, eq-eqb, ne-eqb, eqb-true}
 use lib.Dec.{eqb, ltb}
-use lib.ListN.{length, take, drop, getD, drop-of-length-le}
+use lib.ListN.{length, take, drop, getD, set, length-map, length-take, drop-of-length-le, List·getD-map}
 use lib.Seq.{drop-cons, take-all}
 use Rattle.base.specs.Lists.{seek, any, every, place, member, distinct}
+use Rattle.base.specs.Sheets.{laid}
 use Rattle.base.specs.Refusals.{Outcome, refused, gives, refusalNumber, checkedOf}
 use Rattle.base.specs.declared.Checked.{Checked}
 use Rattle.base.specs.declared.Checked.the-variants.{Passed, Refused}
 use Rattle.base.specs.declared.Refusal.{Refusal}
 use Rattle.base.proofs.Cases.{cases, never}
+use Rattle.base.proofs.Arrays.{all-held}
+use Rattle.base.proofs.Sheets.{copy-on}
 use Rattle.roster.specs.Ascending.{ascendsFrom, ascends}
-use Rattle.roster.specs.Roster.{tooLong, isRegion, columnsCheck, rowOf, observe}
+use Rattle.roster.specs.Roster.{tooLong, isRegion, columnsCheck, rowOf, foundRows, valueAt, observe}
 
 -- ---- ascending ids
 
@@ -45,6 +48,103 @@ pub ascends-distinct : (xs : List ℕ) → ascends xs ≡ true → distinct xs �
 unfolding distinct ascends
 ascends-distinct [] e = refl
 ascends-distinct (x ∷ xs) e = ascending-distinct x xs e
+
+-- ---- the row of a player
+
+-- v is what the whole search gives: the rows gone by and the row in the rest
+module _ (p : ℕ) (ids : List ℕ) (i : ℕ) {v : ℕ} (inv : v ≡ i + rowOf p (drop i ids)) where
+  -- the player is in row i
+  pub row-hit : i < length ids → getD ids i 0 ≡ p → i ≡ v
+  unfolding place
+  row-hit h e =
+      let z : rowOf p (drop i ids) ≡ 0 = rw (drop-cons ids i 0 h, eq-eqb (getD ids i 0) p e) in
+      omega arith
+
+  -- somebody else is
+  pub row-on : i < length ids → (getD ids i 0 ≡ p → ⊥) → v ≡ i + 1 + rowOf p (drop (i + 1) ids)
+  unfolding place
+  row-on h e =
+      let z : rowOf p (drop i ids) ≡ suc (rowOf p (drop (i + 1) ids)) = rw (drop-cons ids i 0 h, ne-eqb (getD ids i 0) p e, add-one i) in
+      omega arith
+
+  -- no row is left
+  pub row-end : length ids ≤ i → i ≡ v
+  unfolding place
+  row-end h =
+      let z : rowOf p (drop i ids) ≡ 0 = rw (drop-of-length-le ids h) in
+      omega arith
+
+-- ---- the row of a player where nobody has two rows
+
+-- who stands in a later row is not in the first
+other-head : (p x : ℕ) (xs : List ℕ) (i : ℕ) → member x xs ≡ false → i < length xs → getD xs i 0 ≡ p → eqb x p ≡ false
+unfolding seek
+other-head p x [] i m h e = absurd (not-suc-le-zero h)
+other-head p x (y ∷ ys) zero m h e =
+    cases (eqb y x) (λ t. never (let z : true ≡ false = rw t at m in cc))
+    (λ f. ne-eqb x p (λ k. never (let z : true ≡ false = sym (eq-eqb y x (e ∙ sym k)) ∙ f in cc)))
+other-head p x (y ∷ ys) (suc i) m h e =
+    cases (eqb y x) (λ t. never (let z : true ≡ false = rw t at m in cc)) (λ f. other-head p x ys i (rw f at m) (le-of-suc-le-suc h) e)
+
+-- where nobody has two rows, a row that has the player is the player's
+pub only-row : (p : ℕ) (ids : List ℕ) (i : ℕ) → distinct ids ≡ true → i < length ids → getD ids i 0 ≡ p → i ≡ rowOf p ids
+unfolding distinct place
+only-row p [] i d h e = absurd (not-suc-le-zero h)
+only-row p (id ∷ ids) zero d h e = rw (eq-eqb id p e)
+only-row p (id ∷ ids) (suc i) d h e =
+    cases (member id ids) (λ t. never (let z : false ≡ true = rw t at d in cc))
+    (λ f. rw (other-head p id ids i f (le-of-suc-le-suc h) e) (ap suc (only-row p ids i (rw f at d) (le-of-suc-le-suc h) e)))
+
+-- ---- rows onto a sheet
+
+module _ (f : ℕ → ℕ) (players sheet : List ℕ) (i : ℕ) where
+  -- one player's row more
+  pub rows-on : {row : ℕ} → i < length players → i < length sheet → row ≡ f (getD players i 0) → set (take i (map f players) ++ drop i sheet) i row ≡ take (i + 1) (map f players) ++ drop (i + 1) sheet
+  rows-on h k e =
+      rw (e, ← List·getD-map f players i 0)
+      (copy-on (map f players) sheet (f 0) i (rw (length-map players f) h) k)
+
+  -- no player is left, or no place
+  pub rows-end : i ≡ min (length players) (length sheet) → take i (map f players) ++ drop i sheet ≡ laid sheet 0 (take (length sheet) (map f players))
+  unfolding laid
+  rows-end e =
+      let w : i ≡ length (take (length sheet) (map f players)) = omega (arith, e, length-take (length sheet) (map f players), length-map players f) in
+      let z : i ≡ 0 + length (take (length sheet) (map f players)) = omega arith in
+      ap (λ (l : List ℕ). l ++ drop i sheet) (all-held (length sheet) (map f players) w)
+      ∙ ap (λ (n : ℕ). take (length sheet) (map f players) ++ drop n sheet) z
+
+-- what comes of a sheet behind a check
+module _ (ids players sheet : List ℕ) (k : Checked) {o : Outcome Unit} where
+  pub found-refused : {x : Refusal} → k ≡ Refused x → checkedOf k ≡ o → sheet ≡ foundRows o ids players sheet
+  found-refused e h = rw (← h, e)
+
+  pub found-passed : k ≡ Passed → checkedOf k ≡ o → laid sheet 0 (take (length sheet) (map (λ p. rowOf p ids) players)) ≡ foundRows o ids players sheet
+  found-passed e h = rw (← h, e)
+
+-- ---- what a column says in a row
+
+module _ {A : Type 0} where
+  -- the column goes so far
+  pub value-row : (xs : List A) (row : ℕ) (d : A) → row < length xs → valueAt xs row ≡ some (getD xs row d)
+  unfolding valueAt
+  value-row [] row d h = absurd (not-suc-le-zero h)
+  value-row (x ∷ xs) zero d h = refl
+  value-row (x ∷ xs) (suc row) d h = value-row xs row d (le-of-suc-le-suc h)
+
+  -- it ends before
+  pub value-none : (xs : List A) (row : ℕ) → length xs ≤ row → valueAt xs row ≡ none
+  unfolding valueAt
+  value-none [] row h = refl
+  value-none (x ∷ xs) zero h = absurd (not-suc-le-zero h)
+  value-none (x ∷ xs) (suc row) h = value-none xs row (le-of-suc-le-suc h)
+
+  -- a column as long as the ids says of a player what it says in the player's row
+  pub value-observed : (p : ℕ) (ids : List ℕ) (xs : List A) → length xs ≡ length ids → valueAt xs (rowOf p ids) ≡ observe ids xs p
+  unfolding valueAt observe place
+  value-observed p [] [] l = refl
+  value-observed p [] (x ∷ xs) l = absurd (omega arith)
+  value-observed p (id ∷ ids) [] l = absurd (omega arith)
+  value-observed p (id ∷ ids) (x ∷ xs) l = cases (eqb id p) (λ t. rw t) (λ f. rw f (value-observed p ids xs (omega arith)))
 
 -- ---- what a column says of a player
 
@@ -128,21 +228,25 @@ unfolding ascends
 ascends-start [] e = absurd (e refl)
 ascends-start (x ∷ xs) e = refl
 
-module _ (x : ℕ) (xs : List ℕ) (i : ℕ) (inv : ascends xs ≡ ascendsFrom x (drop i xs)) where
-  -- the id at i is not above the last
-  pub ascends-not : i < length xs → getD xs i 0 ≤ x → false ≡ ascends xs
-  unfolding ascendsFrom
-  ascends-not h e = sym (inv ∙ rw (drop-cons xs i 0 h, le-ltb x (getD xs i 0) e))
+both : (p q r : Bool) → (p && cond q r false) ≡ ((p && q) && r)
+both true true r = refl
+both true false r = refl
+both false q r = refl
 
-  -- the id at i is above the last: it's the last now
-  pub ascends-on : i < length xs → x < getD xs i 0 → ascends xs ≡ ascendsFrom (getD xs i 0) (drop (i + 1) xs)
+with-true : (p : Bool) → (p && true) ≡ p
+with-true true = refl
+with-true false = refl
+
+module _ (rising : Bool) (x : ℕ) (xs : List ℕ) (i : ℕ) (inv : ascends xs ≡ (rising && ascendsFrom x (drop i xs))) where
+  -- the id at i is the last now
+  pub ascends-on : i < length xs → ascends xs ≡ ((rising && ltb x (getD xs i 0)) && ascendsFrom (getD xs i 0) (drop (i + 1) xs))
   unfolding ascendsFrom
-  ascends-on h e = inv ∙ rw (drop-cons xs i 0 h, lt-ltb x (getD xs i 0) e, add-one)
+  ascends-on h = inv ∙ rw (drop-cons xs i 0 h, add-one) (both rising (ltb x (getD xs i 0)) _)
 
   -- no id is left
-  pub ascends-end : length xs ≤ i → true ≡ ascends xs
+  pub ascends-end : length xs ≤ i → rising ≡ ascends xs
   unfolding ascendsFrom
-  ascends-end h = sym (inv ∙ rw (drop-of-length-le xs h))
+  ascends-end h = sym (inv ∙ rw (drop-of-length-le xs h) (with-true rising))
 
 -- ---- refusals 1 and 2
 
@@ -196,7 +300,36 @@ verdict-passed false true true r h = refl
 verdict-passed false true false r h = never cc
 verdict-passed false false d r h = never cc
 
+-- what passes has all ids different
+verdict-distinct : (o e d r : Bool) → gives tt ≡ verdict o e d r → d ≡ true
+verdict-distinct true e d r h = never cc
+verdict-distinct false true true r h = refl
+verdict-distinct false true false r h = never cc
+verdict-distinct false false d r h = never cc
+
+-- and all columns even
+verdict-even : (o e d r : Bool) → gives tt ≡ verdict o e d r → e ≡ true
+verdict-even true e d r h = never cc
+verdict-even false true d r h = refl
+verdict-even false false d r h = never cc
+
+-- where all are as long as the ids, the first is and the others are
+pub even-first : (n l : ℕ) (ls : List ℕ) → every (λ k. eqb k n) (l ∷ ls) ≡ true → (l ≡ n) × (every (λ k. eqb k n) ls ≡ true)
+unfolding seek
+even-first n l ls h =
+    cases (eqb l n) (λ t. (eqb-true l n t, rw t at h)) (λ f. never (let z : false ≡ true = rw f at h in cc))
+
 module _ (ids ls codes : List ℕ) where
+  -- a roster that passes its check has columns as long as the ids
+  pub passed-even : (k : Checked) → k ≡ Passed → checkedOf k ≡ columnsCheck ids ls codes → every (λ n. eqb n (length ids)) ls ≡ true
+  passed-even k e h =
+      verdict-even (any tooLong (length ids ∷ ls)) (every (λ n. eqb n (length ids)) ls) (distinct ids) (every isRegion codes) (rw e at h)
+
+  -- a roster that passes its check has nobody in two rows
+  pub passed-distinct : (k : Checked) → k ≡ Passed → checkedOf k ≡ columnsCheck ids ls codes → distinct ids ≡ true
+  passed-distinct k e h =
+      verdict-distinct (any tooLong (length ids ∷ ls)) (every (λ n. eqb n (length ids)) ls) (distinct ids) (every isRegion codes) (rw e at h)
+
   -- what is refused without the regions is refused with them, by the same number
   pub refused-still : (r : Checked) {x : Refusal} → r ≡ Refused x → checkedOf r ≡ columnsCheck ids ls [] → checkedOf r ≡ columnsCheck ids ls codes
   unfolding seek

@@ -1,14 +1,15 @@
 // The roster, which stands for the Rust's World: columns that the caller lends.
 ghost use mathlib.Core.Path.{_≡_};
-ghost use mathlib.Core.Bool.{_&&_};
-ghost use mathlib.Core.List.{[], _∷_};
-ghost use Prim.Native.Nat.{_≤_};
+ghost use mathlib.Core.Bool.{_&&_, true};
+ghost use mathlib.Core.List.{[], _∷_, map};
+ghost use Prim.Native.Nat.{_≤_, _+_, _*_};
 ghost use lib.Dec.{eqb};
 ghost use lib.ListN.{length, take, drop};
 ghost use Rattle.base.specs.Refusals.{checkedOf};
 ghost use Rattle.base.specs.Lists.{any, every, member, distinct};
+ghost use Rattle.base.specs.Sheets.{laid};
 ghost use Rattle.roster.specs.Ascending.{ascends};
-ghost use Rattle.roster.specs.Roster.{ofRatings, ofDeviations, ofParties, ofRoles, ofRegions, ofRules, partyOf, roleOf, regionOf, rulesCheck, tooLong, isRegion, columnsCheck, ratingsCheck, deviationsCheck, rosterCheck, rowOf, observe, observedOf};
+ghost use Rattle.roster.specs.Roster.{ofRatings, ofDeviations, ofParties, ofRoles, ofRegions, ofRules, partyOf, roleOf, regionOf, rulesCheck, tooLong, isRegion, columnsCheck, ratingsCheck, deviationsCheck, rosterCheck, rowOf, foundRows, valueAt, observe, observedOf};
 use base::Checked;
 use base::Refusal;
 
@@ -49,7 +50,7 @@ fn differ_pairwise(ids: &[u64]) -> bool
     true
 }
 
-// In one pass: is each id above the one before?
+// In one pass that runs to the end, since that is the quicker: is each id above the one before?
 fn ascend(ids: &[u64]) -> bool
     ensures { λ r. ⌜ r ≡ ascends (now (ids .entry)) ⌝ }
 {
@@ -57,16 +58,15 @@ fn ascend(ids: &[u64]) -> bool
         return true;
     }
     let mut last = ids[0];
+    let mut rising = true;
     let mut i: usize = 1;
     while i < ids.len() {
         let id = ids[i];
-        if id <= last {
-            return false;
-        }
+        rising = rising & (last < id);
         last = id;
         i += 1;
     }
-    true
+    rising
 }
 
 // Ascending ids differ, and that takes one pass; others are held against each other.
@@ -220,18 +220,158 @@ pub fn check_roster(
 
 // ---- the row of a player
 
-// The player's first row, or the number of rows.
+// The player's first row from `from` on, or the number of rows.
+fn row_from(ids: &[u64], from: usize, player: u64) -> usize
+    requires { ⌜ from ≤ length (now ids) ⌝ }
+    ensures { λ r. ⌜ r ≡ from + rowOf player (drop from (now (ids .entry))) ⌝ }
+{
+    let mut at = from;
+    while at < ids.len() {
+        if ids[at] == player {
+            return at;
+        }
+        at += 1;
+    }
+    at
+}
+
+// The player's first row, or the number of rows. Four rows a turn, which is twice as quick as one.
 pub fn row_of(ids: &[u64], player: u64) -> usize
     ensures { λ r. ⌜ r ≡ rowOf player (now (ids .entry)) ⌝ }
 {
     let mut i: usize = 0;
-    while i < ids.len() {
+    while i + 3 < ids.len() {
         if ids[i] == player {
             return i;
         }
+        let second = i + 1;
+        if ids[second] == player {
+            return second;
+        }
+        let third = second + 1;
+        if ids[third] == player {
+            return third;
+        }
+        let fourth = third + 1;
+        if ids[fourth] == player {
+            return fourth;
+        }
+        i = fourth + 1;
+    }
+    row_from(ids, i, player)
+}
+
+// ---- the row of a player where nobody has two rows
+
+// The step, where the id is not above the player.
+fn step_past(id: u64, player: u64, step: usize) -> usize
+    ensures { λ r. ⌜ r ≤ step ⌝ }
+{
+    if player < id {
+        return 0;
+    }
+    step
+}
+
+// The same of the id in a row, where there is such a row.
+fn step_past_row(ids: &[u64], row: usize, player: u64, step: usize) -> usize
+    ensures { λ r. ⌜ r ≤ step ⌝ }
+{
+    if ids.len() <= row {
+        return 0;
+    }
+    step_past(ids[row], player, step)
+}
+
+// From a row on by up to three steps, one for each of the next three ids at this distance that is not above the player. All three are
+// read whatever the first says: there is nothing to foretell.
+fn three_steps(ids: &[u64], from: usize, player: u64, step: usize) -> usize
+    requires { ⌜ (from ≤ 128) × (step ≤ 64) ⌝ }
+    ensures { λ r. ⌜ r ≤ from + 3 * step ⌝ }
+{
+    let first = from + step;
+    let second = first + step;
+    let third = second + step;
+    if ids.len() <= third {
+        return from
+            + step_past_row(ids, first, player, step)
+            + step_past_row(ids, second, player, step)
+            + step_past_row(ids, third, player, step);
+    }
+    from
+        + step_past(ids[first], player, step)
+        + step_past(ids[second], player, step)
+        + step_past(ids[third], player, step)
+}
+
+// Where the player stands if the ids ascend. The caller looks there, so nothing rests on this but time.
+fn guessed_row(ids: &[u64], player: u64) -> usize
+    ensures { λ r. ⌜ r ≤ 127 ⌝ }
+{
+    let of_64 = step_past_row(ids, 64, player, 64);
+    let of_16 = three_steps(ids, of_64, player, 16);
+    let of_4 = three_steps(ids, of_16, player, 4);
+    three_steps(ids, of_4, player, 1)
+}
+
+// The player's row, or the number of rows, where nobody has two.
+fn row_by_guess(ids: &[u64], player: u64) -> usize
+    requires { ⌜ distinct (now ids) ≡ true ⌝ }
+    ensures { λ r. ⌜ r ≡ rowOf player (now (ids .entry)) ⌝ }
+{
+    let guess = guessed_row(ids, player);
+    if guess < ids.len() {
+        if ids[guess] == player {
+            return guess;
+        }
+    }
+    row_of(ids, player)
+}
+
+// Each player's row onto the sheet, as far as both go.
+fn write_rows(ids: &[u64], players: &[u64], rows: &mut [usize])
+    requires { ⌜ distinct (now ids) ≡ true ⌝ }
+    ensures { λ _. ⌜ now (rows .exit) ≡ laid (now (rows .entry)) 0 (take (length (now (rows .entry))) (map (λ p. rowOf p (now (ids .entry))) (now (players .entry)))) ⌝ }
+{
+    let mut i: usize = 0;
+    while i < players.len() {
+        if rows.len() <= i {
+            return;
+        }
+        rows[i] = row_by_guess(ids, players[i]);
         i += 1;
     }
-    i
+}
+
+// The check of the columns, and where they pass each player's row onto the sheet: one check for many look-ups.
+pub fn checked_rows(
+    ids: &[u64],
+    lengths: [usize; 5],
+    count: usize,
+    players: &[u64],
+    rows: &mut [usize],
+) -> Checked
+    ensures { λ r. ⌜ checkedOf r ≡ columnsCheck (now (ids .entry)) (take count lengths) [] ⌝ }
+    ensures { λ r. ⌜ now (rows .exit) ≡ foundRows (columnsCheck (now (ids .entry)) (take count lengths) []) (now (ids .entry)) (now (players .entry)) (now (rows .entry)) ⌝ }
+{
+    let checked = check_columns(ids, lengths, count);
+    let Checked::Passed = checked else {
+        return checked;
+    };
+    write_rows(ids, players, rows);
+    Checked::Passed
+}
+
+// ---- what a column says of a player
+
+// What a column of floats says in this row.
+pub fn observed_at(column: &[f64], row: usize) -> Observed
+    ensures { λ r. ⌜ observedOf r ≡ valueAt (now (column .entry)) row ⌝ }
+{
+    if row < column.len() {
+        return Observed::Of(column[row]);
+    }
+    Observed::Nothing
 }
 
 // What a column of floats says of the player.

@@ -1,19 +1,20 @@
--- `roster::ascend` meets its contract: the rest ascends from the last id exactly where all ids ascend.
+-- `roster::ascend` meets its contract: what went by ascends and the rest ascends from the last id exactly where all ids ascend.
 use Prim.Native.Nat.{_-_, _≤_}
 use mathlib.Core.Path.{_≡_}
+use mathlib.Core.Bool.{_&&_}
 use native.Mathlib.Omega.{arith}
 use lib.ListN.{length, drop}
 use Rattle.roster.specs.Ascending.{ascendsFrom, ascends}
-use Rattle.roster.proofs.Laws.{ascends-none, ascends-start, ascends-not, ascends-on, ascends-end}
+use Rattle.roster.proofs.Laws.{ascends-none, ascends-start, ascends-on, ascends-end}
 use borrow.Author.Needs.{needs}
 use Rattle.roster.proofs.ascend.Statement.{statement}
 use Rattle.roster.proofs.ascend.Tie as tie
 
 abbrev Inv-loop : tie.InvT-loop
-Inv-loop ids last₀ i₀ last i = (i ≤ length ids) × (ascends ids ≡ ascendsFrom last (drop i ids))
+Inv-loop ids last₀ rising₀ i₀ last rising i = (i ≤ length ids) × (ascends ids ≡ (rising && ascendsFrom last (drop i ids)))
 
 abbrev μ-loop : tie.MeasureT-loop
-μ-loop ids last₀ i₀ last i = length ids - i
+μ-loop ids last₀ rising₀ i₀ last rising i = length ids - i
 
 returns : tie.Need-returns Inv-loop μ-loop
 returns c = ascends-none (c .before .args .ids .now) (c .if1 .taken)
@@ -30,12 +31,6 @@ mul-id c = search needs
 shared-slice-read-id : tie.Need-shared-slice-read-id Inv-loop μ-loop
 shared-slice-read-id c = search needs
 
-returns-2 : tie.Need-returns-2 Inv-loop μ-loop
-returns-2 c =
-    let l = c .before .before .before .loop in
-    let a = c .before .before .before .before .before .before .args in
-    ascends-not (l .last) (a .ids .now) (l .i) (l .inv .1) (omega arith) (omega arith)
-
 add-i : tie.Need-add-i Inv-loop μ-loop
 add-i c = search needs
 
@@ -44,15 +39,15 @@ loop-less c = search needs
 
 loop-again : tie.Need-loop-again Inv-loop μ-loop
 loop-again c =
-    let l = c .before .before .before .loop in
-    let a = c .before .before .before .before .before .before .args in
-    (omega arith, ascends-on (l .last) (a .ids .now) (l .i) (l .inv .1) (omega arith) (omega arith))
+    let l = c .before .before .loop in
+    let a = c .before .before .before .before .before .args in
+    (omega arith, ascends-on (l .rising) (l .last) (a .ids .now) (l .i) (l .inv .1) (omega arith))
 
-returns-3 : tie.Need-returns-3 Inv-loop μ-loop
-returns-3 c =
+returns-2 : tie.Need-returns-2 Inv-loop μ-loop
+returns-2 c =
     let l = c .before .loop in
     let a = c .before .before .before .before .args in
-    ascends-end (l .last) (a .ids .now) (l .i) (l .inv .1) (omega arith)
+    ascends-end (l .rising) (l .last) (a .ids .now) (l .i) (l .inv .1) (omega arith)
 
 pub ascend-spec : {M : Type 1} → statement M
 ascend-spec =
@@ -65,8 +60,7 @@ ascend-spec =
     loop-holds
     mul-id
     shared-slice-read-id
-    returns-2
     add-i
     loop-less
     loop-again
-    returns-3)
+    returns-2)
