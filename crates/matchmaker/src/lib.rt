@@ -1,14 +1,15 @@
 // Teams, proposed matches and match quality (matchmaker.rs).
 ghost use mathlib.Core.Path.{_≡_};
 ghost use mathlib.Core.Bool.{_||_};
-ghost use mathlib.Core.List.{foldl};
-ghost use lib.ListN.{length};
+ghost use mathlib.Core.List.{foldl, _++_};
+ghost use Prim.Native.Nat.{_+_, _≤_};
+ghost use lib.ListN.{length, take, drop};
 ghost use lib.Ieee as Ieee;
 ghost use lib.Ieee.{binary64};
 ghost use Rattle.base.specs.Lists.{member};
-ghost use Rattle.roster.specs.Roster.{ofRatings, observe, observedOf};
+ghost use Rattle.roster.specs.Roster.{ofRatings, observe, valueAt, observedOf};
 ghost use Rattle.matchmaker.specs.Quality.{teamOf, matchOf, overfull, seated, observations, averageFrom, averageOf, qualityBetween, qualityOf, QualityPromise};
-ghost use Rattle.matchmaker.specs.Steps.{absorb};
+ghost use Rattle.matchmaker.specs.Steps.{absorb, rowsAverage, rowsQuality};
 use base::Checked;
 use base::Refusal;
 use roster::Observed;
@@ -68,6 +69,26 @@ pub fn quality_between(x: f64, y: f64) -> f64
     1.0 - base::min(base::abs(x - y) / 400.0, 1.0)
 }
 
+// The sum with what the column says in these rows, in their order.
+pub fn add_rows(sum: f64, column: &[f64], rows: &[usize]) -> f64
+    ensures { λ r. ⌜ r ≡ foldl (Ieee.add binary64) sum (observations (valueAt (now (column .entry))) (now (rows .entry))) ⌝ }
+{
+    let mut so_far = sum;
+    let mut i: usize = 0;
+    while i < rows.len() {
+        so_far = add_observed(so_far, roster::observed_at(column, rows[i]));
+        i += 1;
+    }
+    so_far
+}
+
+// The average of what the column says in these rows.
+pub fn average_of_rows(column: &[f64], rows: &[usize]) -> f64
+    ensures { λ r. ⌜ r ≡ rowsAverage (now (column .entry)) (now (rows .entry)) ⌝ }
+{
+    average(add_rows(0.0, column, rows), rows.len())
+}
+
 impl Team {
     // How many players the team holds: 8 at most, whatever length it states.
     pub fn held(self) -> usize
@@ -92,6 +113,22 @@ impl Team {
             i += 1;
         }
         total
+    }
+
+    // The team's players behind the first `at` of the array. All eight places are copied, whatever length is stated: that is the
+    // quicker.
+    fn seat(self, players: [u64; 16], at: usize) -> [u64; 16]
+        requires { ⌜ at ≤ 8 ⌝ }
+        ensures { λ r. ⌜ take (at + length (teamOf self .players)) r ≡ take at players ++ teamOf self .players ⌝ }
+    {
+        let places = self.players;
+        let mut out = players;
+        let mut i: usize = 0;
+        while i < 8 {
+            out[at + i] = places[i];
+            i += 1;
+        }
+        out
     }
 
     // Is the player in the team?
@@ -167,6 +204,28 @@ impl ProposedMatch {
         )
     }
 
+    // Everyone seated in one array, team A then B.
+    pub fn seated_players(self) -> [u64; 16]
+        ensures { λ r. ⌜ take (length (seated (matchOf self))) r ≡ seated (matchOf self) ⌝ }
+    {
+        let a = self.a;
+        let b = self.b;
+        let first = a.seat([0; 16], 0);
+        b.seat(first, a.held())
+    }
+
+    // The quality by the rows of everyone seated, team A then B.
+    pub fn quality_by_rows(self, ratings: &[f64], rows: [usize; 16]) -> f64
+        ensures { λ r. ⌜ r ≡ rowsQuality (now (ratings .entry)) (take (length (matchOf self .a .players)) rows) (take (length (matchOf self .b .players)) (drop (length (matchOf self .a .players)) rows)) ⌝ }
+    {
+        let a = self.a;
+        let n = a.held();
+        let end = self.seats();
+        let x = average_of_rows(ratings, &rows[..n]);
+        let y = average_of_rows(ratings, &rows[n..end]);
+        quality_between(x, y)
+    }
+
     // How even the teams are: 1.0 where their averages are equal, 0.0 where they differ by 400 points or more.
     pub fn match_quality(self, ids: &[u64], ratings: &[f64]) -> Quality
         ensures { λ r. ⌜ QualityPromise (ofRatings (now (ids .entry)) (now (ratings .entry))) (matchOf self) r ⌝ }
@@ -174,8 +233,12 @@ impl ProposedMatch {
         if self.is_overfull() {
             return Quality::Refused(Refusal::OverLimit);
         }
-        match roster::check_ratings(ids, ratings) {
-            Checked::Passed => Quality::Of(self.rated_quality(ids, ratings)),
+        let players = self.seated_players();
+        let n = self.seats();
+        let lengths = [ratings.len(), 0, 0, 0, 0];
+        let mut rows = [0; 16];
+        match roster::checked_rows(ids, lengths, 1, &players[..n], &mut rows) {
+            Checked::Passed => Quality::Of(self.quality_by_rows(ratings, rows)),
             Checked::Refused(refusal) => Quality::Refused(refusal),
         }
     }

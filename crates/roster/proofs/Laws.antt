@@ -121,6 +121,10 @@ module _ (ids players sheet : List ℕ) (k : Checked) {o : Outcome Unit} where
   pub found-passed : k ≡ Passed → checkedOf k ≡ o → laid sheet 0 (take (length sheet) (map (λ p. rowOf p ids) players)) ≡ foundRows o ids players sheet
   found-passed e h = rw (← h, e)
 
+  -- for a caller: behind a check that passes the sheet holds the players' rows
+  pub found-laid : {asked rows : List ℕ} → asked ≡ players → k ≡ Passed → checkedOf k ≡ o → rows ≡ foundRows o ids asked sheet → rows ≡ laid sheet 0 (take (length sheet) (map (λ p. rowOf p ids) players))
+  found-laid a e h f = f ∙ ap (λ (l : List ℕ). foundRows o ids l sheet) a ∙ sym (found-passed e h)
+
 -- ---- what a column says in a row
 
 module _ {A : Type 0} where
