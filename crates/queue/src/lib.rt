@@ -6,7 +6,7 @@ ghost use Prim.Native.Nat.{_+_, _≤_, _<_, min};
 ghost use lib.ListN.{take, drop};
 ghost use Rattle.base.specs.Refusals.{checkedOf};
 ghost use Rattle.base.specs.Lists.{any, place, member};
-ghost use Rattle.queue.specs.Queue.{queueOf, holding, isOf, isLate, queueCheck, enqueuedOf, enqueueRule, removedOf, taking, removeRule, batchOf, parting, batchRule, waitOf, waitedOf, firstWait, waitRule};
+ghost use Rattle.queue.specs.Queue.{queueOf, columnsOf, holding, isOf, isLate, queueCheck, enqueuedOf, enqueueRule, removedOf, taking, removeRule, batchOf, parting, batchRule, waitOf, waitedOf, firstWait, waitRule};
 ghost use mathlib.Core.Option.{Option};
 use base::Checked;
 use base::Refusal;
@@ -65,6 +65,12 @@ pub enum Waited {
 // The player at each place.
 pub struct Players {
     pub ids: [u64; 64],
+}
+
+// The player and the joined time at each place.
+pub struct Columns {
+    pub players: [u64; 64],
+    pub joined: [u64; 64],
 }
 
 // How long a player has waited.
@@ -194,6 +200,24 @@ impl Queue {
             i += 1;
         }
         Players { ids: ids }
+    }
+
+    // The player and the joined time at each place, read once.
+    pub fn columns(self) -> Columns
+        ensures { λ r. ⌜ r ≡ columnsOf self ⌝ }
+    {
+        let mut columns = Columns {
+            players: [0; 64],
+            joined: [0; 64],
+        };
+        let mut k: usize = 0;
+        while k < 64 {
+            let e = self.entries[k];
+            columns.players[k] = e.player;
+            columns.joined[k] = e.joined;
+            k += 1;
+        }
+        columns
     }
 
     // Is a joined time late? Whatever length is stated.

@@ -1,5 +1,6 @@
 // Times in nanoseconds (time.rs).
 ghost use mathlib.Core.Path.{_≡_};
+ghost use Rattle.base.specs.Lists.{any};
 ghost use Rattle.queue.specs.Time.{late, since, secondsOf, durationOf, durationRule, secondsGiven, secondsRule};
 use base::Refusal;
 
@@ -18,6 +19,19 @@ pub fn is_late(t: u64) -> bool
     ensures { λ r. ⌜ r ≡ late t ⌝ }
 {
     9007199254740992 < t
+}
+
+// Is one of these times late? It runs to the end, since that is the quicker.
+pub fn are_late(times: &[u64]) -> bool
+    ensures { λ r. ⌜ r ≡ any late (now (times .entry)) ⌝ }
+{
+    let mut found = false;
+    let mut i: usize = 0;
+    while i < times.len() {
+        found = found | is_late(times[i]);
+        i += 1;
+    }
+    found
 }
 
 // From `earlier` to `later`, 0 where that is negative.
