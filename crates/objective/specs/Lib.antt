@@ -1,3 +1,4 @@
 pub mod Score
 pub mod Soft
 pub mod Pareto
+pub mod Steps

@@ -1,19 +1,18 @@
 // MatchObjective and its score.
 ghost use mathlib.Core.Path.{_≡_};
 ghost use mathlib.Core.List.{foldl};
-ghost use mathlib.Core.Option.{Option·map};
-ghost use Rattle.queue.specs.Time.{secondsOf};
-ghost use Rattle.queue.specs.Queue.{queueOf, waitedOf};
-ghost use Rattle.roster.specs.Roster.{ofDeviations};
-ghost use Rattle.matchmaker.specs.Quality.{teamOf, matchOf, observations};
-ghost use Rattle.matchmaker.specs.Steps.{absorb};
-ghost use Rattle.objective.specs.Score.{longer, waitedSeconds, scoreFrom, scoreOf, scoreGiven, scoreRule};
+ghost use lib.ListN.{length, take, drop};
+ghost use Rattle.base.specs.Floats as Floats;
+ghost use Rattle.queue.specs.Queue.{queueOf};
+ghost use Rattle.roster.specs.Roster.{valueAt, ofDeviations};
+ghost use Rattle.matchmaker.specs.Quality.{matchOf, seated, observations, sumOf};
+ghost use Rattle.matchmaker.specs.Steps.{absorb, rowsQuality};
+ghost use Rattle.objective.specs.Score.{longer, scoreFrom, scoreGiven, scoreRule};
+ghost use Rattle.objective.specs.Steps.{columnWait};
 use base::Checked;
 use base::Refusal;
 use matchmaker::ProposedMatch;
-use matchmaker::Team;
 use queue::Queue;
-use queue::Waited;
 
 // The four weights.
 #[repr(C)]
@@ -39,29 +38,32 @@ fn longer_of(x: f64, y: f64) -> f64
     x
 }
 
-// The longest wait in seconds, with one more player's.
-fn add_wait(longest: f64, waited: Waited) -> f64
-    ensures { λ r. ⌜ r ≡ absorb longer longest (Option·map secondsOf (waitedOf waited)) ⌝ }
+// The longest wait in seconds, with one more player's, who may wait in several places: the first counts.
+fn add_wait(longest: f64, waiting: &[u64], joined: &[u64], clock: u64, player: u64) -> f64
+    ensures { λ r. ⌜ r ≡ absorb longer longest (columnWait clock (now (waiting .entry)) (now (joined .entry)) player) ⌝ }
 {
-    match waited {
-        Waited::Of(nanos) => longer_of(longest, queue::time::in_seconds(nanos)),
-        Waited::Nobody => longest,
+    let place = roster::row_of(waiting, player);
+    if waiting.len() <= place {
+        return longest;
     }
+    if joined.len() <= place {
+        return longest;
+    }
+    let nanos = queue::time::elapsed(clock, joined[place]);
+    longer_of(longest, queue::time::in_seconds(nanos))
 }
 
-// The longest wait in seconds, with those of the team's players.
-fn add_waits(longest: f64, team: Team, queue: Queue, clock: u64) -> f64
-    ensures { λ r. ⌜ r ≡ foldl longer longest (observations (waitedSeconds clock (queueOf queue .entries)) (teamOf team .players)) ⌝ }
+// The longest wait in seconds of these players, at least 0.0, by the columns of those who wait.
+fn longest_wait(players: &[u64], waiting: &[u64], joined: &[u64], clock: u64) -> f64
+    ensures { λ r. ⌜ r ≡ foldl longer Floats.zero (observations (columnWait clock (now (waiting .entry)) (now (joined .entry))) (now (players .entry))) ⌝ }
 {
-    let players = team.players;
-    let n = team.held();
-    let mut total = longest;
+    let mut longest = 0.0;
     let mut i: usize = 0;
-    while i < n {
-        total = add_wait(total, queue.first_wait(players[i], clock));
+    while i < players.len() {
+        longest = add_wait(longest, waiting, joined, clock, players[i]);
         i += 1;
     }
-    total
+    longest
 }
 
 impl MatchObjective {
@@ -75,24 +77,20 @@ impl MatchObjective {
             - self.uncertainty * (matchmaker::average(deviations, seats) / 350.0)
     }
 
-    // The score of a match of any stated lengths by any columns.
-    pub fn rated_score(
+    // The score of a match by the rows of everyone seated, team A then B, and by their longest wait.
+    fn score_by_rows(
         self,
         proposed: ProposedMatch,
-        queue: Queue,
-        ids: &[u64],
+        rows: [usize; 16],
         ratings: &[f64],
         deviations: &[f64],
-        clock: u64,
+        wait: f64,
     ) -> f64
-        ensures { λ r. ⌜ r ≡ scoreOf self (ofDeviations (now (ids .entry)) (now (ratings .entry)) (now (deviations .entry))) (queueOf queue .entries) clock (matchOf proposed) ⌝ }
+        ensures { λ r. ⌜ r ≡ scoreFrom self (rowsQuality (now (ratings .entry)) (take (length (matchOf proposed .a .players)) rows) (take (length (matchOf proposed .b .players)) (drop (length (matchOf proposed .a .players)) rows))) wait (sumOf (observations (valueAt (now (deviations .entry))) (take (length (seated (matchOf proposed))) rows))) (length (seated (matchOf proposed))) ⌝ }
     {
-        let a = proposed.a;
-        let b = proposed.b;
-        let quality = proposed.rated_quality(ids, ratings);
-        let wait = add_waits(add_waits(0.0, a, queue, clock), b, queue, clock);
-        let sum = b.add_to(a.add_to(0.0, ids, deviations), ids, deviations);
-        self.score_from(quality, wait, sum, proposed.seats())
+        let n = proposed.seats();
+        let sum = matchmaker::add_rows(0.0, deviations, &rows[..n]);
+        self.score_from(proposed.quality_by_rows(ratings, rows), wait, sum, n)
     }
 
     // The score of a match among those who wait.
@@ -113,15 +111,25 @@ impl MatchObjective {
         if 64 < queue.len {
             return Score::Refused(Refusal::OverLimit);
         }
-        if let Checked::Refused(refusal) = roster::check_deviations(ids, ratings, deviations) {
+        let players = proposed.seated_players();
+        let n = proposed.seats();
+        let lengths = [ratings.len(), deviations.len(), 0, 0, 0];
+        let mut rows = [0; 16];
+        let checked = roster::checked_rows(ids, lengths, 2, &players[..n], &mut rows);
+        if let Checked::Refused(refusal) = checked {
             return Score::Refused(refusal);
         }
         if queue::time::is_late(clock) {
             return Score::Refused(Refusal::Clock);
         }
-        if queue.has_late() {
+        let columns = queue.columns();
+        let waiting = columns.players;
+        let joined = columns.joined;
+        let end = queue.len;
+        if queue::time::are_late(&joined[..end]) {
             return Score::Refused(Refusal::Clock);
         }
-        Score::Of(self.rated_score(proposed, queue, ids, ratings, deviations, clock))
+        let wait = longest_wait(&players[..n], &waiting[..end], &joined[..end], clock);
+        Score::Of(self.score_by_rows(proposed, rows, ratings, deviations, wait))
     }
 }
