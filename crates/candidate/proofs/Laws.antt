@@ -1,153 +1,186 @@
--- Laws of the nearest generator over plain lists: what is read, the order of places against that of entries, and the cut.
-use Prim.Native.Nat.{ℕ, zero, suc, _+_, _-_, _≤_, _<_}
-use mathlib.Core.Path.{_≡_, refl, sym, ap, _∙_}
-use mathlib.Core.Bool.{Bool, true, false, not, cond, _&&_}
-use mathlib.Core.List.{List, [], _∷_, _++_, map, map-map, append-nil, map-append}
+-- Laws of the nearest generator over plain lists: what is read, how many matches there are and who sits in them, and the order of
+-- places against that of entries.
+use Prim.Native.Nat.{ℕ, zero, suc, _+_, _-_, _*_, _≤_, _<_}
+use mathlib.Core.Path.{_≡_, refl, sym, ap, _∙_, subst}
+use mathlib.Core.Bool.{Bool, true, false, not, cond, _&&_, _||_}
+use mathlib.Core.List.{List, [], _∷_, _++_, map, map-map}
+use mathlib.Core.Option.{Option, Option·getD}
 use native.Mathlib.Nat.{le-of-suc-le-suc, not-suc-le-zero}
-use native.Mathlib.Numerals.{add-one}
 use native.Mathlib.Omega.{arith}
 use borrow.Author.Tests.{lt-ltb, le-ltb, eq-eqb, ne-eqb}
 use lib.Dec.{ltb, eqb}
 use lib.Ieee.{Float}
-use lib.ListN.{length, take, drop, getD, set, replicate, length-map, length-drop, List·getD-eq-default, List·getD-map}
-use lib.Seq.{length-take-le, take-suc, take-take, drop-drop, getD-take, getD-drop, append-snoc}
+use lib.ListN.{length, take, drop, getD, set, replicate, length-map, length-drop, length-append, length-take, length-replicate, List·getD-map, List·getD-append}
+use lib.Seq.{length-take-le, take-all, take-take, take-at, getD-take}
 use Rattle.base.specs.declared.Checked.{Checked}
 use Rattle.base.specs.declared.Checked.the-variants.{Passed, Refused}
 use Rattle.base.specs.declared.Refusal.{Refusal}
 use Rattle.base.specs.Floats as Floats
-use Rattle.base.specs.Refusals.{Outcome, refused, gives, refusalNumber, checkedOf}
+use Rattle.base.specs.Lists.{any, All}
+use Rattle.base.specs.Refusals.{Outcome, refused, gives, guarded, refusalNumber, checkedOf}
 use Rattle.base.specs.Ranking.{unrankable, lower, sortBy}
-use Rattle.base.proofs.Arrays.{push, take-map}
-use Rattle.base.proofs.Sorting.{sort-map, sort-permutes, permuted-length}
+use Rattle.base.specs.Sheets.{laid}
+use Rattle.base.proofs.Arrays.{take-map}
+use Rattle.base.proofs.Cases.{cases, never}
+use Rattle.base.proofs.Members.{all-take}
+use Rattle.base.proofs.Sheets.{copy-on}
+use Rattle.base.proofs.Sorting.{sort-map}
 use Rattle.queue.specs.declared.QueueEntry.{QueueEntry}
-use Rattle.queue.specs.Queue.{QueueState, noEntry}
-use Rattle.roster.specs.Roster.{Roster}
-use Rattle.matchmaker.specs.declared.ProposedMatch.{ProposedMatch}
-use Rattle.matchmaker.specs.Quality.{TeamState, MatchState, matchOf}
+use Rattle.queue.specs.Queue.{QueueState, isLate, noEntry}
+use Rattle.roster.specs.Roster.{Roster, ofRatings, ratingsCheck, rowOf, foundRows, valueAt}
+use Rattle.roster.proofs.Laws.{passed-even, even-first, value-observed}
+use Rattle.matchmaker.specs.Quality.{MatchState, seated}
 use Rattle.ranking.specs.declared.Ranked.{Ranked}
-use Rattle.ranking.specs.Order.{OrderState, ordered, scoreOf, numbered}
+use Rattle.ranking.specs.declared.Ascent.{Ascent}
+use Rattle.ranking.specs.Order.{scoreOf, numbered, ascentOf, risingRule}
+use Rattle.ranking.proofs.Counting.{length-rising-places, rising-places-below, not-risen}
 use Rattle.ranking.proofs.Places.{placesFrom, places, rankedAt, listed-places, sorted-places}
 use Rattle.seating.specs.declared.TeamComposition.{TeamComposition}
-use Rattle.seating.specs.Seating.{Sheets, MatchesState, seatsOf, seats, team, lineup, gathered}
+use Rattle.seating.specs.Seating.{Sheets, sizesOver, areShort, seatsOf, seats}
 use Rattle.seating.specs.Steps.{overlaid}
 use Rattle.seating.proofs.Handing.{handed-refused, handed-on, handed-out}
+use Rattle.seating.proofs.Laws.{overlaid-cut, length-seats}
 use Rattle.search.specs.Greedy.{greedyCheck}
-use Rattle.candidate.specs.Nearest.{ratingFor, rising, chunks, nearestMatches, cannotRank, nearestRule}
-use Rattle.candidate.specs.Steps.{playerAt}
-use Rattle.candidate.proofs.Chunks.{length-rising, matches-fit, seats-fit}
+use Rattle.candidate.specs.Nearest.{thousand, ratingFor, rising, chunks, nearestMatches, cannotRank, nearestRule}
+use Rattle.candidate.specs.Steps.{ratingBy, howMany}
+use Rattle.candidate.proofs.Chunks.{consecutive, exact, length-rising, matches-fit, seats-fit}
 
 -- ---- what is read
 
-module _ (es : List QueueEntry) (n at : ℕ) where
-  -- past the queue there is nobody
-  pub nobody-at : n ≤ length es → n ≤ at → 0 ≡ playerAt (take n es) at
-  nobody-at fits h =
-      let l : length (take n es) ≤ at = omega (arith, length-take-le n es fits) in
-      sym (ap (λ (e : QueueEntry). e .player) (List·getD-eq-default (take n es) noEntry l))
+-- what f makes of the one at a place stands there
+made-at : {A B : Type 0} (f : A → B) (xs : List A) (i : ℕ) (d : B) (e : A) → i < length xs → getD (map f xs) i d ≡ f (getD xs i e)
+made-at f [] i d e h = absurd (not-suc-le-zero h)
+made-at f (x ∷ xs) zero d e h = refl
+made-at f (x ∷ xs) (suc i) d e h = made-at f xs i d e (le-of-suc-le-suc h)
 
-  -- within it there is the entry's player
-  pub somebody-at : at < n → getD es at noEntry .player ≡ playerAt (take n es) at
-  somebody-at h = sym (ap (λ (e : QueueEntry). e .player) (getD-take n es at noEntry h))
+-- the rows of the first n players, behind a check that passed
+rows-front : (ids players sheet : List ℕ) (o : Outcome Unit) (n : ℕ) {rows : List ℕ} → o ≡ gives tt → rows ≡ foundRows o ids (take n players) sheet → n ≤ length players → n ≤ length sheet → take n rows ≡ map (λ p. rowOf p ids) (take n players)
+unfolding laid
+rows-front ids players sheet o n p e fits room =
+    let f : ℕ → ℕ = λ x. rowOf x ids in
+    let xs = take n players in
+    let m : length (map f xs) ≡ n = length-map xs f ∙ length-take-le n players fits in
+    let w : take (length sheet) (map f xs) ≡ map f xs = take-all (length sheet) (map f xs) (omega arith) in
+    ap (take n) (e ∙ ap (λ (q : Outcome Unit). foundRows q ids xs sheet) p ∙ ap (λ (r : List ℕ). r ++ drop (0 + length r) sheet) w)
+    ∙ take-at (map f xs) _ n m
 
--- fewer entries than seats are not ranked
-pub unranked : (n seats : ℕ) (u : Bool) → n < seats → false ≡ (not (ltb n seats) && u)
-unranked n seats u h = rw (lt-ltb n seats h)
+-- a roster that passes has as many ratings as rows
+even : (ids : List ℕ) (ratings : List Float) → ratingsCheck (ofRatings ids ratings) ≡ gives tt → length ratings ≡ length ids
+even ids ratings e =
+    even-first (length ids) (length ratings) [] (passed-even ids (length ratings ∷ []) [] Passed refl (sym e)) .0
 
--- as many or more are, where they can be
-pub ranked-by : (n seats : ℕ) (u : Bool) → seats ≤ n → u ≡ (not (ltb n seats) && u)
-ranked-by n seats u h = rw (le-ltb n seats h)
+-- the rating in a row, or 1000.0
+abbrev pub ratingIn : List Float → ℕ → Float
+ratingIn ratings row = Option·getD (valueAt ratings row) thousand
 
--- ---- teams from a row of players
+-- what is read in the players' rows are their ratings
+read : (ids : List ℕ) (ratings : List Float) (ps : List ℕ) → length ratings ≡ length ids → map (ratingIn ratings) (map (λ p. rowOf p ids) ps) ≡ map (ratingBy (ofRatings ids ratings)) ps
+read ids ratings [] l = refl
+read ids ratings (p ∷ ps) l = rw (value-observed p ids ratings l, read ids ratings ps l)
 
-module _ (ps : List ℕ) (at : ℕ) where
-  -- one more player is copied
-  pub seat-on : (out : List ℕ) (i : ℕ) → at + i < length ps → i < length out → take i out ≡ take i (drop at ps) → take (i + 1) (set out i (getD ps (at + i) 0)) ≡ take (i + 1) (drop at ps)
-  seat-on out i h room inv =
-      let k : i < length (drop at ps) = omega (arith, length-drop at ps) in
-      push out i (getD ps (at + i) 0) room ∙ rw (inv, ← getD-drop at ps i 0, add-one i) (sym (take-suc (drop at ps) i 0 k))
+-- the ratings in the first n rows that were found are those of the first n players
+pub ratings-read : (ids players sheet : List ℕ) (ratings : List Float) (n i : ℕ) (out : List Float) {rows : List ℕ} → ratingsCheck (ofRatings ids ratings) ≡ gives tt → rows ≡ foundRows (ratingsCheck (ofRatings ids ratings)) ids (take n players) sheet → n ≤ length players → n ≤ length sheet → i ≡ n → take i out ≡ map (ratingIn ratings) (take i rows) → take n out ≡ map (ratingBy (ofRatings ids ratings)) (take n players)
+ratings-read ids players sheet ratings n i out {rows} p e fits room h inv =
+    subst (λ (k : ℕ). take k out ≡ map (ratingIn ratings) (take k rows)) h inv
+    ∙ ap (map (ratingIn ratings)) (rows-front ids players sheet (ratingsCheck (ofRatings ids ratings)) n p e fits room)
+    ∙ read ids ratings (take n players) (even ids ratings p)
 
-  -- the team of those copied states as many as it holds
-  pub team-of : (out : List ℕ) (size : ℕ) → at + size ≤ length ps → take size out ≡ take size (drop at ps) → record { size = size; players = take size out } ≡ team (take size (drop at ps))
-  team-of out size h inv =
-      let l : length (take size (drop at ps)) ≡ size = length-take-le size (drop at ps) (omega (arith, length-drop at ps)) in
-      rw (inv, l)
+-- ---- how many matches
 
--- two teams make the match
-pub lined-up : {a b : TeamState} {xs ys : List ℕ} → a ≡ team xs → b ≡ team ys → record { a = a; b = b } ≡ lineup xs ys
-lined-up e h = rw (e, h)
+module _ (seats : ℕ) where
+  many-none : (k left : ℕ) → left < seats → howMany seats k left ≡ 0
+  unfolding howMany
+  many-none zero left h = refl
+  many-none (suc k) left h = rw (lt-ltb left seats h)
 
--- ---- the cut
+  -- so many matches, and those that the rest fills
+  module _ (count limit left : ℕ) {w : ℕ} (inv : count + howMany seats (limit - count) left ≡ w) where
+    -- one more
+    pub many-on : seats ≤ left → count < limit → (count + 1) + howMany seats (limit - (count + 1)) (left - seats) ≡ w
+    unfolding howMany
+    many-on h k =
+        let j : limit - count ≡ suc (limit - (count + 1)) = omega arith in
+        let g = rw (j, le-ltb left seats h) at inv in
+        omega arith
+
+    -- the limit is reached
+    pub many-full : limit ≤ count → count ≡ w
+    unfolding howMany
+    many-full h = let z : limit - count ≡ 0 = omega arith in let g = rw z at inv in omega arith
+
+    -- too few are left
+    pub many-end : left < seats → count ≡ w
+    many-end h = let g : howMany seats (limit - count) left ≡ 0 = many-none (limit - count) left h in omega arith
+
+-- ---- the matches, laid one behind another
 
 module _ (s : TeamComposition) where
+  -- as many matches are cut
+  pub chunks-many : (k : ℕ) (ps : List ℕ) → length (chunks s k ps) ≡ howMany (seatsOf s) k (length ps)
+  unfolding chunks howMany
+  chunks-many zero ps = refl
+  chunks-many (suc k) ps =
+      cases (ltb (length ps) (seatsOf s)) (λ t. rw t)
+      (λ f. rw f (ap suc (chunks-many k (drop (seatsOf s) ps) ∙ ap (howMany (seatsOf s) k) (length-drop (seatsOf s) ps))))
+
+  -- each seats as many, so all seat so many
+  pub seats-many : (k : ℕ) (ps : List ℕ) → length (seats (chunks s k ps)) ≡ howMany (seatsOf s) k (length ps) * seatsOf s
+  seats-many k ps = length-seats (seatsOf s) (chunks s k ps) (filled (chunks s k ps) (exact s k ps)) ∙ ap (λ (n : ℕ). n * seatsOf s) (chunks-many k ps)
+    where
+      filled : (ms : List MatchState) → All (λ (m : MatchState). (length (m .a .players) ≡ s .a) × (length (m .b .players) ≡ s .b)) ms → All (λ (m : MatchState). length (seated m) ≡ seatsOf s) ms
+      filled [] a = tt
+      filled (m ∷ ms) a = (length-append (m .a .players) (m .b .players) ∙ rw (a .0 .0, a .0 .1), filled ms (a .1))
+
+  -- and they are the first of the row
+  pub seats-front : (k : ℕ) (ps : List ℕ) → seats (chunks s k ps) ≡ take (howMany (seatsOf s) k (length ps) * seatsOf s) ps
+  seats-front k ps =
+      let row = seats (chunks s k ps) in
+      sym (take-at row (drop (length row) ps) (length row) refl) ∙ ap (take (length row)) (consecutive s k ps) ∙ ap (λ (n : ℕ). take n ps) (seats-many k ps)
+
+  -- no more are seated than wait
+  pub many-fit : (k n : ℕ) → howMany (seatsOf s) k n * seatsOf s ≤ n
+  many-fit k n =
+      let ps : List ℕ = replicate n 0 in
+      let l : length ps ≡ n = length-replicate n 0 in
+      let e : length (seats (chunks s k ps)) ≡ howMany (seatsOf s) k n * seatsOf s = seats-many k ps ∙ ap (λ (j : ℕ). howMany (seatsOf s) k j * seatsOf s) l in
+      omega (arith, e, seats-fit s k ps)
+
   -- nothing is cut from fewer than a match seats
   chunks-short : (k : ℕ) (ps : List ℕ) → length ps < seatsOf s → chunks s k ps ≡ []
   unfolding chunks
   chunks-short zero ps h = refl
   chunks-short (suc k) ps h = rw (lt-ltb (length ps) (seatsOf s) h)
 
-  -- else the front is the first match
-  chunks-front : (k : ℕ) (ps : List ℕ) → seatsOf s ≤ length ps → chunks s (suc k) ps ≡ lineup (take (s .a) ps) (take (s .b) (drop (s .a) ps)) ∷ chunks s k (drop (seatsOf s) ps)
-  unfolding chunks
-  chunks-front k ps h = rw (le-ltb (length ps) (seatsOf s) h)
+-- ---- players written in the order of their places
 
--- of the first n of an array, those from a place on that all stand among the n
-within : (ps : List ℕ) (n at size : ℕ) → at + size ≤ n → take size (drop at (take n ps)) ≡ take size (drop at ps)
-within ps zero zero zero h = refl
-within ps zero zero (suc size) h = absurd (omega arith)
-within ps zero (suc at) size h = absurd (omega arith)
-within ps (suc n) zero size h = take-take size (suc n) ps (omega arith)
-within [] (suc n) (suc at) size h = refl
-within (p ∷ ps) (suc n) (suc at) size h = within ps n at size (omega arith)
+-- the players at the first n places
+abbrev pub atPlaces : List ℕ → List ℕ → ℕ → List ℕ
+atPlaces ws places n = map (λ p. getD ws p 0) (take n places)
 
--- the matches cut so far and those that the rest gives are all
-module _ (s : TeamComposition) (limit n : ℕ) (ps : List ℕ) (fits : n ≤ length ps) (items : List ProposedMatch) (len at : ℕ) (inv : map matchOf (take len items) ++ chunks s (limit - len) (drop at (take n ps)) ≡ chunks s limit (take n ps)) where
-  -- one more is cut
-  pub cut-on : (m : ProposedMatch) → at + seatsOf s ≤ n → len < limit → len < length items → matchOf m ≡ lineup (take (s .a) (drop at ps)) (take (s .b) (drop (s .a) (drop at ps))) → map matchOf (take (len + 1) (set items len m)) ++ chunks s (limit - (len + 1)) (drop (at + seatsOf s) (take n ps)) ≡ chunks s limit (take n ps)
-  cut-on m h k room e =
-      let rest = drop at (take n ps) in
-      let l : seatsOf s ≤ length rest = omega (arith, length-drop at (take n ps), length-take-le n ps fits) in
-      let j : limit - len ≡ suc (limit - (len + 1)) = omega arith in
-      let a : take (s .a) rest ≡ take (s .a) (drop at ps) = within ps n at (s .a) (omega arith) in
-      let b : take (s .b) (drop (s .a) rest) ≡ take (s .b) (drop (s .a) (drop at ps)) =
-      ap (take (s .b)) (drop-drop (s .a) at (take n ps)) ∙ within ps n (at + s .a) (s .b) (omega arith) ∙ ap (take (s .b)) (sym (drop-drop (s .a) at ps)) in
-      let f : chunks s (limit - len) rest ≡ matchOf m ∷ chunks s (limit - (len + 1)) (drop (at + seatsOf s) (take n ps)) =
-      ap (λ (i : ℕ). chunks s i rest) j ∙ chunks-front s (limit - (len + 1)) rest l
-      ∙ rw (a, b, ← e, drop-drop (seatsOf s) at (take n ps)) in
-      ap (λ (x : List ProposedMatch). map matchOf x ++ chunks s (limit - (len + 1)) (drop (at + seatsOf s) (take n ps))) (push items len m room)
-      ∙ ap (λ (x : List MatchState). x ++ chunks s (limit - (len + 1)) (drop (at + seatsOf s) (take n ps))) (map-append matchOf (take len items) (m ∷ []))
-      ∙ append-snoc (map matchOf (take len items)) (matchOf m) (chunks s (limit - (len + 1)) (drop (at + seatsOf s) (take n ps)))
-      ∙ ap (λ (x : List MatchState). map matchOf (take len items) ++ x) (sym f) ∙ inv
+module _ (ws places : List ℕ) (n : ℕ) (fits : n ≤ length places) where
+  abbrev row : List ℕ
+  row = atPlaces ws places n
 
-  cut-all : len ≤ length items → chunks s (limit - len) (drop at (take n ps)) ≡ [] → record { size = len; items = map matchOf (take len items) } ≡ gathered (chunks s limit (take n ps))
-  cut-all room e =
-      let w : map matchOf (take len items) ≡ chunks s limit (take n ps) = sym (append-nil (map matchOf (take len items))) ∙ (rw e at inv) in
-      let l : len ≡ length (map matchOf (take len items)) = sym (length-map (take len items) matchOf ∙ length-take-le len items room) in
-      rw (← w) (ap (λ (k : ℕ). record { size = k; items = map matchOf (take len items) }) l)
+  length-at : length row ≡ n
+  length-at = length-map (take n places) (λ p. getD ws p 0) ∙ length-take-le n places fits
 
-  -- the limit is reached
-  pub cut-full : len ≤ length items → limit ≤ len → record { size = len; items = map matchOf (take len items) } ≡ gathered (chunks s limit (take n ps))
-  unfolding chunks
-  cut-full room h = let z : limit - len ≡ 0 = omega arith in cut-all room (rw z)
+  -- one more is written
+  pub seat-on : (sheet now : List ℕ) (i : ℕ) → now ≡ take i row ++ drop i sheet → i < n → i < length sheet → set now i (getD ws (getD places i 0) 0) ≡ take (i + 1) row ++ drop (i + 1) sheet
+  seat-on sheet now i inv h room =
+      let e : getD row i 0 ≡ getD ws (getD places i 0) 0 =
+      made-at (λ p. getD ws p 0) (take n places) i 0 0 (rw (length-take-le n places fits) h) ∙ ap (λ (p : ℕ). getD ws p 0) (getD-take n places i 0 h) in
+      rw (inv, ← e) (copy-on row sheet 0 i (omega (arith, length-at)) room)
 
-  -- too few are left
-  pub cut-end : len ≤ length items → n < at + seatsOf s → at ≤ n → record { size = len; items = map matchOf (take len items) } ≡ gathered (chunks s limit (take n ps))
-  cut-end room h k = cut-all room (chunks-short s (limit - len) (drop at (take n ps)) (omega (arith, length-drop at (take n ps), length-take-le n ps fits)))
+  -- all are written
+  pub seat-end : (sheet now : List ℕ) (i : ℕ) → now ≡ take i row ++ drop i sheet → i ≡ n → n ≤ length sheet → now ≡ overlaid row sheet
+  seat-end sheet now i inv e room =
+      inv ∙ overlaid-cut row sheet i (omega (arith, length-at))
 
 -- ---- the order of places, and that of entries
 
-length-numbered : (at : ℕ) (ss : List Float) → length (numbered at ss) ≡ length ss
-unfolding numbered
-length-numbered at [] = refl
-length-numbered at (s ∷ ss) = ap suc (length-numbered (suc at) ss)
-
--- as many are in the order as are given
-pub ordered-size : (before : Ranked → Ranked → Bool) (es : List Float) (n : ℕ) {o : OrderState} → n ≤ length es → o ≡ ordered (sortBy before (numbered 0 (take n es))) → o .size ≡ n
-ordered-size before es n fits e =
-    ap (λ (q : OrderState). q .size) e ∙ sym (permuted-length (sort-permutes before (numbered 0 (take n es)))) ∙ length-numbered 0 (take n es) ∙ length-take-le n es fits
-
--- the first n of what f makes of an order's places is what f makes of the order
-pub order-made : {A : Type 0} (f : Ranked → A) (xs : List Ranked) (k n : ℕ) {w : List Ranked} → k ≡ n → take k xs ≡ w → take n (map f xs) ≡ map f w
-order-made f xs k n e h = take-map f n xs ∙ ap (map f) (ap (λ (i : ℕ). take i xs) (sym e) ∙ h)
+-- the player at a place
+abbrev playerAt : List QueueEntry → ℕ → ℕ
+playerAt entries at = getD entries at noEntry .player
 
 -- the players at the places of the rising ratings are the players of the entries by rising rating
 pub players-rise : (f : QueueEntry → Float) (q : List QueueEntry) → map (λ (x : Ranked). playerAt q (x .place)) (sortBy (lower scoreOf) (numbered 0 (map f q))) ≡ map (λ (e : QueueEntry). e .player) (sortBy (lower f) q)
@@ -168,22 +201,62 @@ players-rise f q =
 
 -- ---- the answer
 
--- whether the entries can be ranked, by what was read of them
-pub same-ranking : (s : TeamComposition) (r : Roster) (queue : List QueueEntry) {n : ℕ} {held : List Float} {t : Bool} → n ≡ length queue → held ≡ map (ratingFor r) queue → t ≡ (not (ltb n (seatsOf s)) && unrankable held) → cannotRank s r queue ≡ t
-same-ranking s r queue e h g = sym (rw (e, h) at g)
+-- the ratings of the entries are those of their players
+same-ratings : (r : Roster) (es : List QueueEntry) (n : ℕ) {ws : List ℕ} → ws ≡ map (λ e. e .player) es → map (ratingBy r) (take n ws) ≡ map (ratingFor r) (take n es)
+same-ratings r es n e =
+    ap (λ (ws : List ℕ). map (ratingBy r) (take n ws)) e ∙ ap (map (ratingBy r)) (take-map (λ (x : QueueEntry). x .player) n es)
+    ∙ map-map (ratingBy r) (λ (x : QueueEntry). x .player) (take n es)
 
--- the matches of neighbours, by what was read of the entries
-pub same-matches : (limit : ℕ) (s : TeamComposition) (r : Roster) (queue : List QueueEntry) {held : List Float} {m : MatchesState} → held ≡ map (ratingFor r) queue → m ≡ gathered (chunks s limit (map (λ (x : Ranked). playerAt queue (x .place)) (sortBy (lower scoreOf) (numbered 0 held)))) → m ≡ gathered (nearestMatches limit s r queue)
-same-matches limit s r queue h e =
-    e
-    ∙ ap (λ (ss : List Float). gathered (chunks s limit (map (λ (x : Ranked). playerAt queue (x .place)) (sortBy (lower scoreOf) (numbered 0 ss))))) h
-    ∙ ap (λ (ps : List ℕ). gathered (chunks s limit ps)) (players-rise (ratingFor r) queue)
+-- what an order of the players by rating says of the entries, by its answer
+module _ (r : Roster) (es : List QueueEntry) (n : ℕ) (o : Ascent) {ws : List ℕ} (w : ws ≡ map (λ e. e .player) es) (h : ascentOf o ≡ risingRule (map (ratingBy r) (take n ws))) where
+  pub order-refused : {x : Refusal} → o .answer ≡ Refused x → refused (refusalNumber x) ≡ risingRule (map (ratingFor r) (take n es))
+  order-refused e =
+      ap (λ (k : Checked). guarded (checkedOf k) (gives (take (o .len) (o .places)))) (sym e) ∙ h ∙ ap risingRule (same-ratings r es n w)
+
+  pub order-given : o .answer ≡ Passed → gives (take (o .len) (o .places)) ≡ risingRule (map (ratingFor r) (take n es))
+  order-given e =
+      ap (λ (k : Checked). guarded (checkedOf k) (gives (take (o .len) (o .places)))) (sym e) ∙ h ∙ ap risingRule (same-ratings r es n w)
+
+-- the first k of an order's places hold the first k of the players by rising rating
+pub seated-row : (r : Roster) (es : List QueueEntry) (n k len : ℕ) (places : List ℕ) {ws : List ℕ} → n ≤ length es → k ≤ n → ws ≡ map (λ e. e .player) es → take len places ≡ map (λ (x : Ranked). x .place) (sortBy (lower scoreOf) (numbered 0 (map (ratingFor r) (take n es)))) → (All (λ p. p < n) (take k places)) × (map (λ p. getD ws p 0) (take k places) ≡ take k (map (λ (e : QueueEntry). e .player) (rising r (take n es))))
+seated-row r es n k len places {ws} fits h w e =
+    let q = take n es in
+    let f = ratingFor r in
+    let order = map (λ (x : Ranked). x .place) (sortBy (lower scoreOf) (numbered 0 (map f q))) in
+    let lq : length q ≡ n = length-take-le n es fits in
+    let lf : length (map f q) ≡ n = length-map q f ∙ lq in
+    let lo : length order ≡ n = length-rising-places (lower scoreOf) (map f q) ∙ lf in
+    let kl : k ≤ len = omega (arith, h, lo, ap length e, length-take len places) in
+    let p : take k places ≡ take k order = sym (take-take k len places kl) ∙ ap (take k) e in
+    let b : All (λ i. i < n) order = rw lf at (rising-places-below (lower scoreOf) (map f q)) in
+    let a : All (λ i. i < n) (take k order) = all-take (λ i. i < n) k order b in
+    let g : map (λ i. getD ws i 0) order ≡ map (λ i. playerAt q i) order =
+    ap (λ (v : List ℕ). map (λ i. getD v i 0) order) w ∙ same-players es n order b in
+    let x : map (λ i. playerAt q i) order ≡ map (λ (e : QueueEntry). e .player) (rising r q) =
+    map-map (λ i. playerAt q i) (λ (y : Ranked). y .place) (sortBy (lower scoreOf) (numbered 0 (map f q))) ∙ players-rise f q in
+    (rw p a, rw p (sym (take-map (λ i. getD ws i 0) k order) ∙ ap (take k) (g ∙ x)))
+  where
+    same-players : (es : List QueueEntry) (n : ℕ) (ps : List ℕ) → All (λ i. i < n) ps → map (λ i. getD (map (λ (e : QueueEntry). e .player) es) i 0) ps ≡ map (λ i. getD (take n es) i noEntry .player) ps
+    same-players es n [] a = refl
+    same-players es n (p ∷ ps) a =
+        rw (List·getD-map (λ (e : QueueEntry). e .player) es p noEntry, getD-take n es p noEntry (a .0), same-players es n ps (a .1))
 
 -- as many zeros as there are matches
 blank : {A : Type 0} (x : Float) (ms : List A) (k : ℕ) → length ms ≤ k → take (length ms) (replicate k x) ≡ map (λ (m : A). x) ms
 blank x [] k h = refl
 blank x (m ∷ ms) zero h = absurd (not-suc-le-zero h)
 blank x (m ∷ ms) (suc k) h = ap (λ (l : List Float). x ∷ l) (blank x ms k (le-of-suc-le-suc h))
+
+-- a check that passes has passed the roster
+roster-passing : (t : Bool) (o : Outcome Unit) (rest : Outcome Unit) → _≡_ {A = Outcome Unit} (gives tt) (cond t (refused 1) (guarded o rest)) → o ≡ gives tt
+roster-passing true o rest h = never cc
+roster-passing false (refused n) rest h = never cc
+roster-passing false (gives v) rest h = refl
+
+pub passed-roster : (s : TeamComposition) (r : Roster) (q : QueueState) (players qualities : ℕ) (k : Checked) → k ≡ Passed → checkedOf k ≡ greedyCheck s r q players qualities → ratingsCheck r ≡ gives tt
+passed-roster s r q players qualities k e h =
+    let p : gives tt ≡ greedyCheck s r q players qualities = rw e at h in
+    roster-passing (ltb 64 (q .size) || sizesOver s) (ratingsCheck r) (cond (areShort players qualities) (refused 3) (cond (any isLate (q .entries)) (refused 4) (gives tt))) p
 
 module _ (limit : ℕ) (s : TeamComposition) (r : Roster) (q : QueueState) (sheets : Sheets) (k : Checked) (h : checkedOf k ≡ greedyCheck s r q (length (sheets .players)) (length (sheets .qualities))) where
   -- what comes behind the check
@@ -199,22 +272,34 @@ module _ (limit : ℕ) (s : TeamComposition) (r : Roster) (q : QueueState) (shee
   nearest-seatless e z = handed-on (λ m. Floats.zero) sheets behind k h e (rw (eq-eqb (seatsOf s) 0 z))
 
   module _ (e : k ≡ Passed) (z : seatsOf s ≡ 0 → ⊥) where
+    -- fewer entries than seats: none, unranked
+    pub nearest-few : length (q .entries) < seatsOf s → record { answer = gives 0; sheets = sheets } ≡ nearestRule limit s r q sheets
+    unfolding seats
+    nearest-few l =
+        let ps = map (λ (x : QueueEntry). x .player) (rising r (q .entries)) in
+        let o : length ps ≡ length (q .entries) = length-rising r (q .entries) in
+        let n : nearestMatches limit s r (q .entries) ≡ [] = chunks-short s limit ps (omega arith) in
+        handed-on (λ m. Floats.zero) sheets behind k h e (rw (ne-eqb (seatsOf s) 0 z, lt-ltb (length (q .entries)) (seatsOf s) l, n))
+
     -- ratings that cannot be ranked: 5
-    pub nearest-unranked : cannotRank s r (q .entries) ≡ true → record { answer = refused 5; sheets = sheets } ≡ nearestRule limit s r q sheets
-    nearest-unranked t = handed-on (λ m. Floats.zero) sheets behind k h e (rw (ne-eqb (seatsOf s) 0 z, t))
+    pub nearest-unranked : {x : ℕ} → seatsOf s ≤ length (q .entries) → refused x ≡ risingRule (map (ratingFor r) (q .entries)) → record { answer = refused x; sheets = sheets } ≡ nearestRule limit s r q sheets
+    nearest-unranked l f =
+        let u = not-risen (map (ratingFor r) (q .entries)) f in
+        handed-on (λ m. Floats.zero) sheets behind k h e (rw (ne-eqb (seatsOf s) 0 z, le-ltb (length (q .entries)) (seatsOf s) l, u .0, u .1))
 
     -- else the matches, with quality 0.0
-    pub nearest-given : {m : MatchesState} {n : ℕ} {players : List ℕ} {qualities : List Float} → cannotRank s r (q .entries) ≡ false → m ≡ gathered (nearestMatches limit s r (q .entries)) → n ≡ length (m .items) → length (q .entries) ≤ 64 → 64 ≤ length (sheets .players) → 64 ≤ length (sheets .qualities) → players ≡ overlaid (seats (m .items)) (sheets .players) → qualities ≡ overlaid (take n (replicate 64 Floats.zero)) (sheets .qualities) → record { answer = gives n; sheets = record { players = players; qualities = qualities } } ≡ nearestRule limit s r q sheets
-    nearest-given {m} {n} t f c l a b p w =
+    pub nearest-given : {n : ℕ} {row players : List ℕ} {qualities : List Float} → seatsOf s ≤ length (q .entries) → unrankable (map (ratingFor r) (q .entries)) ≡ false → n ≡ howMany (seatsOf s) limit (length (q .entries)) → row ≡ take (n * seatsOf s) (map (λ (x : QueueEntry). x .player) (rising r (q .entries))) → length (q .entries) ≤ 64 → 64 ≤ length (sheets .players) → 64 ≤ length (sheets .qualities) → players ≡ overlaid row (sheets .players) → qualities ≡ overlaid (take n (replicate 64 Floats.zero)) (sheets .qualities) → record { answer = gives n; sheets = record { players = players; qualities = qualities } } ≡ nearestRule limit s r q sheets
+    nearest-given {n} {row} g u c t l a b p w =
         let ms = nearestMatches limit s r (q .entries) in
         let ps = map (λ (x : QueueEntry). x .player) (rising r (q .entries)) in
-        let i : m .items ≡ ms = ap (λ (x : MatchesState). x .items) f in
-        let j : n ≡ length ms = c ∙ ap length i in
         let o : length ps ≡ length (q .entries) = length-rising r (q .entries) in
+        let many : howMany (seatsOf s) limit (length ps) ≡ n = ap (howMany (seatsOf s) limit) o ∙ sym c in
+        let j : n ≡ length ms = sym (chunks-many s limit ps ∙ many) in
+        let i : row ≡ seats ms = t ∙ sym (seats-front s limit ps ∙ ap (λ (x : ℕ). take (x * seatsOf s) ps) many) in
         let few : length ms ≤ length ps = matches-fit s (omega arith) limit ps in
         let fit : length (seats ms) ≤ length ps = seats-fit s limit ps in
-        let row : take n (replicate 64 Floats.zero) ≡ map (λ (x : MatchState). Floats.zero) ms =
+        let zeros : take n (replicate 64 Floats.zero) ≡ map (λ (x : MatchState). Floats.zero) ms =
         ap (λ (x : ℕ). take x (replicate 64 Floats.zero)) j ∙ blank Floats.zero ms 64 (omega arith) in
         handed-on (λ x. Floats.zero) sheets behind k h e
-        (rw (ne-eqb (seatsOf s) 0 z, t)
-        (handed-out (λ x. Floats.zero) sheets ms j (omega arith) (omega arith) (p ∙ ap (λ (x : List MatchState). overlaid (seats x) (sheets .players)) i) row w))
+        (rw (ne-eqb (seatsOf s) 0 z, le-ltb (length (q .entries)) (seatsOf s) g, u)
+        (handed-out (λ x. Floats.zero) sheets ms j (omega arith) (omega arith) (p ∙ ap (λ (x : List ℕ). overlaid x (sheets .players)) i) zeros w))

@@ -1,10 +1,17 @@
--- How the code of the generators reads places. No public contract cites this.
-use Prim.Native.Nat.{ℕ}
-use mathlib.Core.List.{List}
-use lib.ListN.{getD}
-use Rattle.queue.specs.declared.QueueEntry.{QueueEntry}
-use Rattle.queue.specs.Queue.{noEntry}
+-- How the code of the nearest generator reads and counts. No public contract cites this.
+use Prim.Native.Nat.{ℕ, zero, suc, _-_}
+use mathlib.Core.Bool.{cond}
+use mathlib.Core.Option.{Option·getD}
+use lib.Dec.{ltb}
+use lib.Ieee.{Float}
+use Rattle.roster.specs.Roster.{Roster, ratingOf}
+use Rattle.candidate.specs.Nearest.{thousand}
 
--- the player at a place
-abbrev pub playerAt : List QueueEntry → ℕ → ℕ
-playerAt entries at = getD entries at noEntry .player
+-- a player's rating by the roster, or 1000.0
+abbrev pub ratingBy : Roster → ℕ → Float
+ratingBy r p = Option·getD (ratingOf r p) thousand
+
+-- how many matches of so many seats are cut from n players, at most the given number
+unfoldable pub howMany : ℕ → ℕ → ℕ → ℕ
+howMany seats zero n = 0
+howMany seats (suc k) n = cond (ltb n seats) 0 (suc (howMany seats k (n - seats)))

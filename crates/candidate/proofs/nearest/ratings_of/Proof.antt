@@ -1,36 +1,54 @@
--- An array filled: what is written are the ratings of the first entries.
-use Prim.Native.Nat.{ℕ, _-_, _≤_}
+-- The rows of the players are found, and what is written so far are the ratings in the first of them.
+use Prim.Native.Nat.{_-_, _≤_}
 use mathlib.Core.Path.{_≡_, sym, ap, _∙_}
 use mathlib.Core.List.{map}
 use mathlib.Core.Option.{Option, Option·getD}
 use native.Mathlib.Omega.{arith}
 use lib.Ieee.{Float}
-use lib.ListN.{length, take, length-set}
+use lib.ListN.{length, take, replicate, length-set}
+use lib.Seq.{length-take-le}
 use Rattle.base.proofs.Arrays.{fill-on, unmapped}
-use Rattle.queue.specs.Queue.{noEntry}
-use Rattle.roster.specs.Roster.{ofRatings}
-use Rattle.candidate.specs.Nearest.{thousand, ratingFor}
+use Rattle.candidate.specs.Nearest.{thousand}
+use Rattle.candidate.proofs.Laws.{ratingIn, ratings-read}
 use borrow.Author.Needs.{needs}
 use Rattle.candidate.proofs.nearest.ratings_of.Statement.{statement}
 use Rattle.candidate.proofs.nearest.ratings_of.Tie as tie
 
 abbrev Inv-loop : tie.InvT-loop
-Inv-loop ids ratings entries n out₀ i₀ out i = (i ≤ n) × (length out ≡ 64) × (length entries ≡ 64) × (take i out ≡ map (ratingFor (ofRatings ids ratings)) (take i entries))
+Inv-loop n ids ratings rows out₀ i₀ out i = (i ≤ n) × (length out ≡ 64) × (length rows ≡ 64) × (take i out ≡ map (ratingIn ratings) (take i rows))
 
 abbrev μ-loop : tie.MeasureT-loop
-μ-loop ids ratings entries n out₀ i₀ out i = n - i
+μ-loop n ids ratings rows out₀ i₀ out i = n - i
+
+array-share-prefix-waiting : tie.Need-array-share-prefix-waiting Inv-loop μ-loop
+array-share-prefix-waiting c =
+    let a = c .before .before .before .args in
+    let w : length (a .players .ids) ≡ 64 = search (unmapped, needs) in
+    omega arith
+
+slice-aggregate-checked-rows : tie.Need-slice-aggregate-checked-rows Inv-loop μ-loop
+slice-aggregate-checked-rows c =
+    let a = c .before .before .before .before .args in
+    let w : length (a .players .ids) ≡ 64 = search (unmapped, needs) in
+    sym (length-take-le (a .n) (a .players .ids) (omega arith))
+
+slice-aggregate-checked-rows-2 : tie.Need-slice-aggregate-checked-rows-2 Inv-loop μ-loop
+slice-aggregate-checked-rows-2 c = search needs
+
+checked-rows-requires : tie.Need-checked-rows-requires Inv-loop μ-loop
+checked-rows-requires c κs = search needs
 
 loop-holds : tie.Need-loop-holds Inv-loop μ-loop
-loop-holds c = (omega arith, search needs, search (unmapped, needs), search needs)
+loop-holds c = search needs
 
-mul-entry : tie.Need-mul-entry Inv-loop μ-loop
-mul-entry c = search needs
+mul-observed-at : tie.Need-mul-observed-at Inv-loop μ-loop
+mul-observed-at c = search needs
 
-array-copy-out-entry : tie.Need-array-copy-out-entry Inv-loop μ-loop
-array-copy-out-entry c = search needs
+array-read-observed-at : tie.Need-array-read-observed-at Inv-loop μ-loop
+array-read-observed-at c = search needs
 
-observation-requires : tie.Need-observation-requires Inv-loop μ-loop
-observation-requires c κs = search needs
+observed-at-requires : tie.Need-observed-at-requires Inv-loop μ-loop
+observed-at-requires c κs = search needs
 
 or-thousand-requires : tie.Need-or-thousand-requires Inv-loop μ-loop
 or-thousand-requires c κs = search needs
@@ -49,16 +67,18 @@ loop-less c = search needs
 
 loop-again : tie.Need-loop-again Inv-loop μ-loop
 loop-again c =
-    let s = c .before .before .before .before .before .before .before .before .args in
-    let l = c .before .before .before .before .loop in
-    (omega arith, simp length-set (l .inv .1), l .inv .2, fill-on (ratingFor (ofRatings (s .ids .now) (s .ratings .now))) (s .queue .entries) (l .out) (l .i) noEntry (omega arith) (omega arith) (l .inv .3) (c .or-thousand .ensures ∙ ap (λ (o : Option Float). Option·getD o thousand) (c .before .observation .ensures)))
+    let a = c .before .before .before .before .before .before .before .before .before .before .before .args in
+    let l = c .before .before .before .loop in
+    (omega arith, simp length-set (l .inv .1), l .inv .2, fill-on (ratingIn (a .ratings .now)) _ (l .out) (l .i) 0 (omega arith) (omega arith) (l .inv .3) (c .or-thousand .ensures ∙ ap (λ (o : Option Float). Option·getD o thousand) (c .before .observed-at .ensures)))
 
 returns : tie.Need-returns Inv-loop μ-loop
 returns c =
-    let s = c .before .before .before .before .before .args in
+    let s = c .before .before .before .before .before .before .before .before .before in
+    let a = s .args in
     let l = c .before .loop in
-    let e : s .queue .len ≡ l .i = omega arith in
-    ap (λ (k : ℕ). take k (l .out)) e ∙ l .inv .3 ∙ ap (λ (k : ℕ). map (ratingFor (ofRatings (s .ids .now) (s .ratings .now))) (take k (s .queue .entries))) (sym e)
+    let w : length (a .players .ids) ≡ 64 = search (unmapped, needs) in
+    let e : l .i ≡ a .n = omega arith in
+    ratings-read (a .ids .now) (a .players .ids) (replicate 64 0) (a .ratings .now) (a .n) (l .i) (l .out) (s .pre .1) (c .before .before .before .checked-rows .ensures .1) (omega arith) (omega arith) e (l .inv .3)
 
 pub ratings-of-spec : {M : Type 1} → statement M
 ratings-of-spec =
@@ -66,10 +86,14 @@ ratings-of-spec =
     (tie.spec
     Inv-loop
     μ-loop
+    array-share-prefix-waiting
+    slice-aggregate-checked-rows
+    slice-aggregate-checked-rows-2
+    checked-rows-requires
     loop-holds
-    mul-entry
-    array-copy-out-entry
-    observation-requires
+    mul-observed-at
+    array-read-observed-at
+    observed-at-requires
     or-thousand-requires
     mul-out
     array-write-out
