@@ -2,15 +2,15 @@
 -- places against that of entries.
 use Prim.Native.Nat.{ℕ, zero, suc, _+_, _-_, _*_, _≤_, _<_}
 use mathlib.Core.Path.{_≡_, refl, sym, ap, _∙_, subst}
-use mathlib.Core.Bool.{Bool, true, false, not, cond, _&&_, _||_}
+use mathlib.Core.Bool.{Bool, true, false, cond, _||_}
 use mathlib.Core.List.{List, [], _∷_, _++_, map, map-map}
-use mathlib.Core.Option.{Option, Option·getD}
+use mathlib.Core.Option.{Option·getD}
 use native.Mathlib.Nat.{le-of-suc-le-suc, not-suc-le-zero}
 use native.Mathlib.Omega.{arith}
 use borrow.Author.Tests.{lt-ltb, le-ltb, eq-eqb, ne-eqb}
 use lib.Dec.{ltb, eqb}
 use lib.Ieee.{Float}
-use lib.ListN.{length, take, drop, getD, set, replicate, length-map, length-drop, length-append, length-take, length-replicate, List·getD-map, List·getD-append}
+use lib.ListN.{length, take, drop, getD, set, replicate, length-map, length-drop, length-append, length-take, length-replicate, List·getD-map}
 use lib.Seq.{length-take-le, take-all, take-take, take-at, getD-take}
 use Rattle.base.specs.declared.Checked.{Checked}
 use Rattle.base.specs.declared.Checked.the-variants.{Passed, Refused}
@@ -33,7 +33,7 @@ use Rattle.matchmaker.specs.Quality.{MatchState, seated}
 use Rattle.ranking.specs.declared.Ranked.{Ranked}
 use Rattle.ranking.specs.declared.Ascent.{Ascent}
 use Rattle.ranking.specs.Order.{scoreOf, numbered, ascentOf, risingRule}
-use Rattle.ranking.proofs.Counting.{length-rising-places, rising-places-below, not-risen}
+use Rattle.ranking.proofs.Turning.{length-rising-places, rising-places-below, not-risen}
 use Rattle.ranking.proofs.Places.{placesFrom, places, rankedAt, listed-places, sorted-places}
 use Rattle.seating.specs.declared.TeamComposition.{TeamComposition}
 use Rattle.seating.specs.Seating.{Sheets, sizesOver, areShort, seatsOf, seats}

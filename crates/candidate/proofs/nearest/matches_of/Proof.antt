@@ -16,7 +16,7 @@ abbrev μ-loop : tie.MeasureT-loop
 μ-loop seats limit n left₀ count₀ left count = left
 
 loop-holds : tie.Need-loop-holds Inv-loop μ-loop
-loop-holds c = 
+loop-holds c =
     let z : c .args .limit - 0 ≡ c .args .limit = omega arith in
     (omega arith, omega arith, ap (λ (k : ℕ). 0 + howMany (c .args .seats) k (c .args .n)) z ∙ zero-add _)
 

@@ -8,7 +8,8 @@ use lib.Seq.{length-take-le}
 use Rattle.base.proofs.Arrays.{unmapped}
 use Rattle.queue.specs.Queue.{queueOf}
 use Rattle.roster.specs.Roster.{ofRatings}
-use Rattle.ranking.proofs.Counting.{has-risen, all-below}
+use Rattle.ranking.proofs.Counting.{all-below}
+use Rattle.ranking.proofs.Turning.{has-risen}
 use Rattle.seating.specs.Seating.{seatsOf}
 use Rattle.search.proofs.Checked.{passed-check}
 use Rattle.candidate.specs.Nearest.{ratingFor}
