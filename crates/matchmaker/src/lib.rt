@@ -27,6 +27,11 @@ pub struct ProposedMatch {
     pub b: Team,
 }
 
+// Everyone seated in one array, team A then B, and what stands behind them counts for nothing.
+pub struct Seated {
+    pub players: [u64; 16],
+}
+
 pub enum Quality {
     Refused(Refusal),
     Of(f64),
@@ -204,14 +209,16 @@ impl ProposedMatch {
         )
     }
 
-    // Everyone seated in one array, team A then B.
-    pub fn seated_players(self) -> [u64; 16]
-        ensures { λ r. ⌜ take (length (seated (matchOf self))) r ≡ seated (matchOf self) ⌝ }
+    // Everyone seated in one array, read once.
+    pub fn seated_players(self) -> Seated
+        ensures { λ r. ⌜ take (length (seated (matchOf self))) (r .players) ≡ seated (matchOf self) ⌝ }
     {
         let a = self.a;
         let b = self.b;
         let first = a.seat([0; 16], 0);
-        b.seat(first, a.held())
+        Seated {
+            players: b.seat(first, a.held()),
+        }
     }
 
     // The quality by the rows of everyone seated, team A then B.
@@ -233,7 +240,8 @@ impl ProposedMatch {
         if self.is_overfull() {
             return Quality::Refused(Refusal::OverLimit);
         }
-        let players = self.seated_players();
+        let everyone = self.seated_players();
+        let players = everyone.players;
         let n = self.seats();
         let lengths = [ratings.len(), 0, 0, 0, 0];
         let mut rows = [0; 16];

@@ -111,7 +111,8 @@ impl MatchObjective {
         if 64 < queue.len {
             return Score::Refused(Refusal::OverLimit);
         }
-        let players = proposed.seated_players();
+        let everyone = proposed.seated_players();
+        let players = everyone.players;
         let n = proposed.seats();
         let lengths = [ratings.len(), deviations.len(), 0, 0, 0];
         let mut rows = [0; 16];

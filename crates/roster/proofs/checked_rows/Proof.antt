@@ -1,5 +1,5 @@
 -- `roster::checked_rows` meets its contract: a refusal leaves the sheet, and behind a check that passes nobody has two rows.
-use mathlib.Core.Path.{sym, _∙_}
+use mathlib.Core.Path.{_∙_}
 use mathlib.Core.List.{[]}
 use lib.ListN.{take}
 use Rattle.roster.proofs.Laws.{passed-distinct, found-refused, found-passed}

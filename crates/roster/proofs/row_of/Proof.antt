@@ -1,9 +1,8 @@
 -- `roster::row_of` meets its contract: the rows gone by and the row in the rest make the row, whichever of the four decides.
-use Prim.Native.Nat.{ℕ, _+_, _-_, _≤_, _<_}
+use Prim.Native.Nat.{_+_, _-_, _≤_}
 use mathlib.Core.Path.{_≡_, sym, _∙_}
-use mathlib.Core.List.{List}
 use native.Mathlib.Omega.{arith}
-use lib.ListN.{length, drop, getD}
+use lib.ListN.{length, drop}
 use Rattle.roster.specs.Roster.{rowOf}
 use Rattle.roster.proofs.Laws.{row-hit, row-on}
 use borrow.Author.Needs.{needs}

@@ -1,6 +1,6 @@
 -- `roster::write_rows` meets its contract. A copy from the front: so many players' rows, and the sheet beyond.
 use Prim.Native.Nat.{ℕ, _-_, _≤_, min}
-use mathlib.Core.Path.{_≡_, refl, sym, _∙_}
+use mathlib.Core.Path.{_≡_, refl, _∙_}
 use mathlib.Core.List.{_++_, map}
 use native.Mathlib.Omega.{arith}
 use lib.ListN.{length, take, drop, length-set}

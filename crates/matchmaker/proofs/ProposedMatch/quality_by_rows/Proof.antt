@@ -1,8 +1,7 @@
 -- `ProposedMatch::quality_by_rows` meets its contract: the first rows are team A's, and those behind them team B's.
-use Prim.Native.Nat.{_≤_}
-use mathlib.Core.Path.{_≡_, sym, _∙_}
+use mathlib.Core.Path.{_≡_, sym}
 use native.Mathlib.Omega.{arith}
-use lib.ListN.{length, take, drop}
+use lib.ListN.{length}
 use lib.Seq.{length-take-le}
 use Rattle.base.proofs.Arrays.{unmapped}
 use Rattle.matchmaker.proofs.Rows.{seats-fit, rows-known}

@@ -1,5 +1,4 @@
 -- `ProposedMatch::seated_players` meets its contract: team A at the front, team B behind it.
-use Prim.Native.Nat.{_≤_}
 use mathlib.Core.Path.{_≡_}
 use native.Mathlib.Omega.{arith}
 use lib.ListN.{length, take, replicate}

@@ -1,13 +1,6 @@
 -- `score::add_wait` meets its contract: where the player waits the longer counts, and elsewhere the longest is left.
-use mathlib.Core.Path.{_≡_, sym, ap, _∙_}
-use mathlib.Core.Option.{some, Option·map}
 use native.Mathlib.Omega.{arith}
-use lib.ListN.{getD}
-use Rattle.queue.specs.Time.{since, secondsOf}
-use Rattle.roster.specs.Roster.{observe}
 use Rattle.roster.proofs.Laws.{observe-row, observe-no-row, observe-short}
-use Rattle.matchmaker.specs.Steps.{absorb}
-use Rattle.objective.specs.Score.{longer}
 use borrow.Author.Needs.{needs}
 use Rattle.objective.proofs.score.add_wait.Statement.{statement}
 use Rattle.objective.proofs.score.add_wait.Tie as tie

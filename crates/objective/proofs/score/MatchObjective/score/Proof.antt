@@ -58,17 +58,17 @@ seats-requires c κs = search needs
 
 array-share-prefix-players : tie.Need-array-share-prefix-players
 array-share-prefix-players c =
-    let m = c .before .before .before .before .before .before .before .before .before .args .proposed in
-    let u : length (c .before .seated-players .result) ≡ 16 = search (unmapped, needs) in
-    let fit = seats-fit (m .a .players) (m .b .players) (m .a .len) (m .b .len) (eight-in-a (c .before .before .before .before .before .before .before .before .before)) (eight-in-b (c .before .before .before .before .before .before .before .before .before)) refl (c .seats .ensures) in
+    let m = c .before .before .before .before .before .before .before .before .before .before .args .proposed in
+    let u : length (c .before .before .seated-players .result .players) ≡ 16 = search (unmapped, needs) in
+    let fit = seats-fit (m .a .players) (m .b .players) (m .a .len) (m .b .len) (eight-in-a (c .before .before .before .before .before .before .before .before .before .before)) (eight-in-b (c .before .before .before .before .before .before .before .before .before .before)) refl (c .seats .ensures) in
     omega arith
 
 slice-aggregate-checked-rows : tie.Need-slice-aggregate-checked-rows
 slice-aggregate-checked-rows c =
-    let m = c .before .before .before .before .before .before .before .before .before .before .args .proposed in
-    let u : length (c .before .before .seated-players .result) ≡ 16 = search (unmapped, needs) in
-    let fit = seats-fit (m .a .players) (m .b .players) (m .a .len) (m .b .len) (eight-in-a (c .before .before .before .before .before .before .before .before .before .before)) (eight-in-b (c .before .before .before .before .before .before .before .before .before .before)) refl (c .before .seats .ensures) in
-    sym (length-take-le (c .before .seats .result) (c .before .before .seated-players .result) (omega arith))
+    let m = c .before .before .before .before .before .before .before .before .before .before .before .args .proposed in
+    let u : length (c .before .before .before .seated-players .result .players) ≡ 16 = search (unmapped, needs) in
+    let fit = seats-fit (m .a .players) (m .b .players) (m .a .len) (m .b .len) (eight-in-a (c .before .before .before .before .before .before .before .before .before .before .before)) (eight-in-b (c .before .before .before .before .before .before .before .before .before .before .before)) refl (c .before .seats .ensures) in
+    sym (length-take-le (c .before .seats .result) (c .before .before .before .seated-players .result .players) (omega arith))
 
 slice-aggregate-checked-rows-2 : tie.Need-slice-aggregate-checked-rows-2
 slice-aggregate-checked-rows-2 c = search needs
@@ -81,11 +81,11 @@ enum-known-checked c = search needs
 
 returns-3 : tie.Need-returns-3
 returns-3 c =
-    let a = c .before .before .before .before .before .before .before .before .before .before .before .before .before .before .before .before .args in
+    let a = c .before .before .before .before .before .before .before .before .before .before .before .before .before .before .before .before .before .args in
     let r = ofDeviations (a .ids .now) (a .ratings .now) (a .deviations .now) in
     let m = matchOf (a .proposed) in
-    let seated-fit = sym (c .before .before .before .before .before .before .before .before .before .before .before .before .is-overfull .ensures) ∙ c .before .before .before .before .before .before .before .before .before .before .before .if1 .left in
-    score-roster (a .self) r (queueOf (a .queue)) (a .clock) m seated-fit (le-ltb _ _ (c .before .before .before .before .before .before .before .before .before .if2 .left)) _ (c .before .before .before .before .checked-rows .ensures .0) (c .before .checked .given .1)
+    let seated-fit = sym (c .before .before .before .before .before .before .before .before .before .before .before .before .before .is-overfull .ensures) ∙ c .before .before .before .before .before .before .before .before .before .before .before .before .if1 .left in
+    score-roster (a .self) r (queueOf (a .queue)) (a .clock) m seated-fit (le-ltb _ _ (c .before .before .before .before .before .before .before .before .before .before .if2 .left)) _ (c .before .before .before .before .checked-rows .ensures .0) (c .before .checked .given .1)
 
 enum-told : tie.Need-enum-told
 enum-told c = search needs
@@ -95,30 +95,30 @@ is-late-requires c κs = search needs
 
 returns-4 : tie.Need-returns-4
 returns-4 c =
-    let a = c .before .before .before .before .before .before .before .before .before .before .before .before .before .before .before .before .before .args in
+    let a = c .before .before .before .before .before .before .before .before .before .before .before .before .before .before .before .before .before .before .args in
     let r = ofDeviations (a .ids .now) (a .ratings .now) (a .deviations .now) in
     let m = matchOf (a .proposed) in
-    let seated-fit = sym (c .before .before .before .before .before .before .before .before .before .before .before .before .before .is-overfull .ensures) ∙ c .before .before .before .before .before .before .before .before .before .before .before .before .if1 .left in
-    score-clock (a .self) r (queueOf (a .queue)) (a .clock) m seated-fit (le-ltb _ _ (c .before .before .before .before .before .before .before .before .before .before .if2 .left)) _ (c .before .before .before .before .before .checked-rows .ensures .0) (c .before .before .enum-told .given .1) (sym (c .before .is-late .ensures) ∙ c .if3 .taken)
+    let seated-fit = sym (c .before .before .before .before .before .before .before .before .before .before .before .before .before .before .is-overfull .ensures) ∙ c .before .before .before .before .before .before .before .before .before .before .before .before .before .if1 .left in
+    score-clock (a .self) r (queueOf (a .queue)) (a .clock) m seated-fit (le-ltb _ _ (c .before .before .before .before .before .before .before .before .before .before .before .if2 .left)) _ (c .before .before .before .before .before .checked-rows .ensures .0) (c .before .before .enum-told .given .1) (sym (c .before .is-late .ensures) ∙ c .if3 .taken)
 
 columns-requires : tie.Need-columns-requires
 columns-requires c κs = search needs
 
 array-share-prefix-joined : tie.Need-array-share-prefix-joined
 array-share-prefix-joined c =
-    let q = c .before .before .before .before .before .before .before .before .before .before .before .before .before .before .before .before .before .before .before .before .args .queue in
-    let l = places (c .before .before .before .before .before .before .before .before .before .before .before .before .before .before .before .before .before .before .before .before) in
+    let q = c .before .before .before .before .before .before .before .before .before .before .before .before .before .before .before .before .before .before .before .before .before .args .queue in
+    let l = places (c .before .before .before .before .before .before .before .before .before .before .before .before .before .before .before .before .before .before .before .before .before) in
     let w : length (c .before .before .columns .result .joined) ≡ 64 = ap (λ (k : Columns). length (k .joined)) (c .before .before .columns .ensures) ∙ length-map (q .entries) (λ (e : QueueEntry). e .joined) ∙ l in
-    let short = c .before .before .before .before .before .before .before .before .before .before .before .before .before .if2 .left in
+    let short = c .before .before .before .before .before .before .before .before .before .before .before .before .before .before .if2 .left in
     let fits : q .len ≤ length (c .before .before .columns .result .joined) = omega arith in
     fits
 
 slice-aggregate-are-late : tie.Need-slice-aggregate-are-late
 slice-aggregate-are-late c =
-    let q = c .before .before .before .before .before .before .before .before .before .before .before .before .before .before .before .before .before .before .before .before .before .args .queue in
-    let l = places (c .before .before .before .before .before .before .before .before .before .before .before .before .before .before .before .before .before .before .before .before .before) in
+    let q = c .before .before .before .before .before .before .before .before .before .before .before .before .before .before .before .before .before .before .before .before .before .before .args .queue in
+    let l = places (c .before .before .before .before .before .before .before .before .before .before .before .before .before .before .before .before .before .before .before .before .before .before) in
     let w : length (c .before .before .before .columns .result .joined) ≡ 64 = ap (λ (k : Columns). length (k .joined)) (c .before .before .before .columns .ensures) ∙ length-map (q .entries) (λ (e : QueueEntry). e .joined) ∙ l in
-    let short = c .before .before .before .before .before .before .before .before .before .before .before .before .before .before .if2 .left in
+    let short = c .before .before .before .before .before .before .before .before .before .before .before .before .before .before .before .if2 .left in
     let fits : q .len ≤ length (c .before .before .before .columns .result .joined) = omega arith in
     sym (length-take-le (q .len) (c .before .before .before .columns .result .joined) fits)
 
@@ -127,61 +127,61 @@ are-late-requires c κs = search needs
 
 returns-5 : tie.Need-returns-5
 returns-5 c =
-    let a = c .before .before .before .before .before .before .before .before .before .before .before .before .before .before .before .before .before .before .before .before .before .before .before .args in
+    let a = c .before .before .before .before .before .before .before .before .before .before .before .before .before .before .before .before .before .before .before .before .before .before .before .before .args in
     let r = ofDeviations (a .ids .now) (a .ratings .now) (a .deviations .now) in
     let m = matchOf (a .proposed) in
-    let seated-fit = sym (c .before .before .before .before .before .before .before .before .before .before .before .before .before .before .before .before .before .before .before .is-overfull .ensures) ∙ c .before .before .before .before .before .before .before .before .before .before .before .before .before .before .before .before .before .before .if1 .left in
+    let seated-fit = sym (c .before .before .before .before .before .before .before .before .before .before .before .before .before .before .before .before .before .before .before .before .is-overfull .ensures) ∙ c .before .before .before .before .before .before .before .before .before .before .before .before .before .before .before .before .before .before .before .if1 .left in
     let late = c .before .are-late .ensures ∙ ap (λ (k : Columns). any time.late (take (a .queue .len) (k .joined))) (c .before .before .before .before .before .columns .ensures) ∙ late-by-column (a .queue .entries) (a .queue .len) in
-    score-late (a .self) r (queueOf (a .queue)) (a .clock) m seated-fit (le-ltb _ _ (c .before .before .before .before .before .before .before .before .before .before .before .before .before .before .before .before .if2 .left)) _ (c .before .before .before .before .before .before .before .before .before .before .before .checked-rows .ensures .0) (c .before .before .before .before .before .before .before .before .enum-told .given .1)
+    score-late (a .self) r (queueOf (a .queue)) (a .clock) m seated-fit (le-ltb _ _ (c .before .before .before .before .before .before .before .before .before .before .before .before .before .before .before .before .before .if2 .left)) _ (c .before .before .before .before .before .before .before .before .before .before .before .checked-rows .ensures .0) (c .before .before .before .before .before .before .before .before .enum-told .given .1)
     (sym (c .before .before .before .before .before .before .before .is-late .ensures) ∙ c .before .before .before .before .before .before .if3 .left) (sym late ∙ c .if4 .taken)
 
 array-share-prefix-players-2 : tie.Need-array-share-prefix-players-2
 array-share-prefix-players-2 c =
-    let m = c .before .before .before .before .before .before .before .before .before .before .before .before .before .before .before .before .before .before .before .before .before .before .before .args .proposed in
-    let u : length (c .before .before .before .before .before .before .before .before .before .before .before .before .before .before .before .seated-players .result) ≡ 16 = search (unmapped, needs) in
-    let fit = seats-fit (m .a .players) (m .b .players) (m .a .len) (m .b .len) (eight-in-a (c .before .before .before .before .before .before .before .before .before .before .before .before .before .before .before .before .before .before .before .before .before .before .before)) (eight-in-b (c .before .before .before .before .before .before .before .before .before .before .before .before .before .before .before .before .before .before .before .before .before .before .before)) refl (c .before .before .before .before .before .before .before .before .before .before .before .before .before .before .seats .ensures) in
+    let m = c .before .before .before .before .before .before .before .before .before .before .before .before .before .before .before .before .before .before .before .before .before .before .before .before .args .proposed in
+    let u : length (c .before .before .before .before .before .before .before .before .before .before .before .before .before .before .before .before .seated-players .result .players) ≡ 16 = search (unmapped, needs) in
+    let fit = seats-fit (m .a .players) (m .b .players) (m .a .len) (m .b .len) (eight-in-a (c .before .before .before .before .before .before .before .before .before .before .before .before .before .before .before .before .before .before .before .before .before .before .before .before)) (eight-in-b (c .before .before .before .before .before .before .before .before .before .before .before .before .before .before .before .before .before .before .before .before .before .before .before .before)) refl (c .before .before .before .before .before .before .before .before .before .before .before .before .before .before .seats .ensures) in
     omega arith
 
 slice-aggregate-longest-wait : tie.Need-slice-aggregate-longest-wait
 slice-aggregate-longest-wait c =
-    let m = c .before .before .before .before .before .before .before .before .before .before .before .before .before .before .before .before .before .before .before .before .before .before .before .before .args .proposed in
-    let u : length (c .before .before .before .before .before .before .before .before .before .before .before .before .before .before .before .before .seated-players .result) ≡ 16 = search (unmapped, needs) in
-    let fit = seats-fit (m .a .players) (m .b .players) (m .a .len) (m .b .len) (eight-in-a (c .before .before .before .before .before .before .before .before .before .before .before .before .before .before .before .before .before .before .before .before .before .before .before .before)) (eight-in-b (c .before .before .before .before .before .before .before .before .before .before .before .before .before .before .before .before .before .before .before .before .before .before .before .before)) refl (c .before .before .before .before .before .before .before .before .before .before .before .before .before .before .before .seats .ensures) in
-    sym (length-take-le (c .before .before .before .before .before .before .before .before .before .before .before .before .before .before .before .seats .result) (c .before .before .before .before .before .before .before .before .before .before .before .before .before .before .before .before .seated-players .result) (omega arith))
+    let m = c .before .before .before .before .before .before .before .before .before .before .before .before .before .before .before .before .before .before .before .before .before .before .before .before .before .args .proposed in
+    let u : length (c .before .before .before .before .before .before .before .before .before .before .before .before .before .before .before .before .before .seated-players .result .players) ≡ 16 = search (unmapped, needs) in
+    let fit = seats-fit (m .a .players) (m .b .players) (m .a .len) (m .b .len) (eight-in-a (c .before .before .before .before .before .before .before .before .before .before .before .before .before .before .before .before .before .before .before .before .before .before .before .before .before)) (eight-in-b (c .before .before .before .before .before .before .before .before .before .before .before .before .before .before .before .before .before .before .before .before .before .before .before .before .before)) refl (c .before .before .before .before .before .before .before .before .before .before .before .before .before .before .before .seats .ensures) in
+    sym (length-take-le (c .before .before .before .before .before .before .before .before .before .before .before .before .before .before .before .seats .result) (c .before .before .before .before .before .before .before .before .before .before .before .before .before .before .before .before .before .seated-players .result .players) (omega arith))
 
 array-share-prefix-waiting : tie.Need-array-share-prefix-waiting
 array-share-prefix-waiting c =
-    let q = c .before .before .before .before .before .before .before .before .before .before .before .before .before .before .before .before .before .before .before .before .before .before .before .before .args .queue in
-    let l = places (c .before .before .before .before .before .before .before .before .before .before .before .before .before .before .before .before .before .before .before .before .before .before .before .before) in
+    let q = c .before .before .before .before .before .before .before .before .before .before .before .before .before .before .before .before .before .before .before .before .before .before .before .before .before .args .queue in
+    let l = places (c .before .before .before .before .before .before .before .before .before .before .before .before .before .before .before .before .before .before .before .before .before .before .before .before .before) in
     let w : length (c .before .before .before .before .before .before .columns .result .players) ≡ 64 = ap (λ (k : Columns). length (k .players)) (c .before .before .before .before .before .before .columns .ensures) ∙ length-map (q .entries) (λ (e : QueueEntry). e .player) ∙ l in
-    let short = c .before .before .before .before .before .before .before .before .before .before .before .before .before .before .before .before .before .if2 .left in
+    let short = c .before .before .before .before .before .before .before .before .before .before .before .before .before .before .before .before .before .before .if2 .left in
     let fits : q .len ≤ length (c .before .before .before .before .before .before .columns .result .players) = omega arith in
     fits
 
 slice-aggregate-longest-wait-2 : tie.Need-slice-aggregate-longest-wait-2
 slice-aggregate-longest-wait-2 c =
-    let q = c .before .before .before .before .before .before .before .before .before .before .before .before .before .before .before .before .before .before .before .before .before .before .before .before .before .args .queue in
-    let l = places (c .before .before .before .before .before .before .before .before .before .before .before .before .before .before .before .before .before .before .before .before .before .before .before .before .before) in
+    let q = c .before .before .before .before .before .before .before .before .before .before .before .before .before .before .before .before .before .before .before .before .before .before .before .before .before .before .args .queue in
+    let l = places (c .before .before .before .before .before .before .before .before .before .before .before .before .before .before .before .before .before .before .before .before .before .before .before .before .before .before) in
     let w : length (c .before .before .before .before .before .before .before .columns .result .players) ≡ 64 = ap (λ (k : Columns). length (k .players)) (c .before .before .before .before .before .before .before .columns .ensures) ∙ length-map (q .entries) (λ (e : QueueEntry). e .player) ∙ l in
-    let short = c .before .before .before .before .before .before .before .before .before .before .before .before .before .before .before .before .before .before .if2 .left in
+    let short = c .before .before .before .before .before .before .before .before .before .before .before .before .before .before .before .before .before .before .before .if2 .left in
     let fits : q .len ≤ length (c .before .before .before .before .before .before .before .columns .result .players) = omega arith in
     sym (length-take-le (q .len) (c .before .before .before .before .before .before .before .columns .result .players) fits)
 
 array-share-prefix-joined-2 : tie.Need-array-share-prefix-joined-2
 array-share-prefix-joined-2 c =
-    let q = c .before .before .before .before .before .before .before .before .before .before .before .before .before .before .before .before .before .before .before .before .before .before .before .before .before .args .queue in
-    let l = places (c .before .before .before .before .before .before .before .before .before .before .before .before .before .before .before .before .before .before .before .before .before .before .before .before .before) in
+    let q = c .before .before .before .before .before .before .before .before .before .before .before .before .before .before .before .before .before .before .before .before .before .before .before .before .before .before .args .queue in
+    let l = places (c .before .before .before .before .before .before .before .before .before .before .before .before .before .before .before .before .before .before .before .before .before .before .before .before .before .before) in
     let w : length (c .before .before .before .before .before .before .before .columns .result .joined) ≡ 64 = ap (λ (k : Columns). length (k .joined)) (c .before .before .before .before .before .before .before .columns .ensures) ∙ length-map (q .entries) (λ (e : QueueEntry). e .joined) ∙ l in
-    let short = c .before .before .before .before .before .before .before .before .before .before .before .before .before .before .before .before .before .before .if2 .left in
+    let short = c .before .before .before .before .before .before .before .before .before .before .before .before .before .before .before .before .before .before .before .if2 .left in
     let fits : q .len ≤ length (c .before .before .before .before .before .before .before .columns .result .joined) = omega arith in
     fits
 
 slice-aggregate-longest-wait-3 : tie.Need-slice-aggregate-longest-wait-3
 slice-aggregate-longest-wait-3 c =
-    let q = c .before .before .before .before .before .before .before .before .before .before .before .before .before .before .before .before .before .before .before .before .before .before .before .before .before .before .args .queue in
-    let l = places (c .before .before .before .before .before .before .before .before .before .before .before .before .before .before .before .before .before .before .before .before .before .before .before .before .before .before) in
+    let q = c .before .before .before .before .before .before .before .before .before .before .before .before .before .before .before .before .before .before .before .before .before .before .before .before .before .before .before .args .queue in
+    let l = places (c .before .before .before .before .before .before .before .before .before .before .before .before .before .before .before .before .before .before .before .before .before .before .before .before .before .before .before) in
     let w : length (c .before .before .before .before .before .before .before .before .columns .result .joined) ≡ 64 = ap (λ (k : Columns). length (k .joined)) (c .before .before .before .before .before .before .before .before .columns .ensures) ∙ length-map (q .entries) (λ (e : QueueEntry). e .joined) ∙ l in
-    let short = c .before .before .before .before .before .before .before .before .before .before .before .before .before .before .before .before .before .before .before .if2 .left in
+    let short = c .before .before .before .before .before .before .before .before .before .before .before .before .before .before .before .before .before .before .before .before .if2 .left in
     let fits : q .len ≤ length (c .before .before .before .before .before .before .before .before .columns .result .joined) = omega arith in
     sym (length-take-le (q .len) (c .before .before .before .before .before .before .before .before .columns .result .joined) fits)
 
@@ -193,28 +193,28 @@ score-by-rows-requires c κs = search needs
 
 returns-6 : tie.Need-returns-6
 returns-6 c =
-    let a = c .before .before .before .before .before .before .before .before .before .before .before .before .before .before .before .before .before .before .before .before .before .before .before .before .before .before .before .before .args in
+    let a = c .before .before .before .before .before .before .before .before .before .before .before .before .before .before .before .before .before .before .before .before .before .before .before .before .before .before .before .before .before .args in
     let r = ofDeviations (a .ids .now) (a .ratings .now) (a .deviations .now) in
     let m = matchOf (a .proposed) in
-    let seated-fit = sym (c .before .before .before .before .before .before .before .before .before .before .before .before .before .before .before .before .before .before .before .before .before .before .before .before .is-overfull .ensures) ∙ c .before .before .before .before .before .before .before .before .before .before .before .before .before .before .before .before .before .before .before .before .before .before .before .if1 .left in
+    let seated-fit = sym (c .before .before .before .before .before .before .before .before .before .before .before .before .before .before .before .before .before .before .before .before .before .before .before .before .before .is-overfull .ensures) ∙ c .before .before .before .before .before .before .before .before .before .before .before .before .before .before .before .before .before .before .before .before .before .before .before .before .if1 .left in
     let late = c .before .before .before .before .before .before .are-late .ensures ∙ ap (λ (k : Columns). any time.late (take (a .queue .len) (k .joined))) (c .before .before .before .before .before .before .before .before .before .before .columns .ensures) ∙ late-by-column (a .queue .entries) (a .queue .len) in
     let k = c .before .before .before .before .before .before .before .before .before .before .before .before .before .before .before .before .checked-rows in
     let passed = c .before .before .before .before .before .before .before .before .before .before .before .before .before .enum-told .given .1 in
     let even = passed-even (a .ids .now) (length (a .ratings .now) ∷ length (a .deviations .now) ∷ []) [] (k .result) passed (k .ensures .0) in
     let first = even-first (length (a .ids .now)) (length (a .ratings .now)) (length (a .deviations .now) ∷ []) even in
     let second = even-first (length (a .ids .now)) (length (a .deviations .now)) [] (first .1) in
-    let everyone = ap (λ (n : ℕ). take n (c .before .before .before .before .before .before .before .before .before .before .before .before .before .before .before .before .before .before .before .before .seated-players .result)) (c .before .before .before .before .before .before .before .before .before .before .before .before .before .before .before .before .before .before .before .seats .ensures) ∙ c .before .before .before .before .before .before .before .before .before .before .before .before .before .before .before .before .before .before .before .before .seated-players .ensures in
+    let everyone = ap (λ (n : ℕ). take n (c .before .before .before .before .before .before .before .before .before .before .before .before .before .before .before .before .before .before .before .before .before .seated-players .result .players)) (c .before .before .before .before .before .before .before .before .before .before .before .before .before .before .before .before .before .before .before .seats .ensures) ∙ c .before .before .before .before .before .before .before .before .before .before .before .before .before .before .before .before .before .before .before .before .before .seated-players .ensures in
     let x = m .a .players in
     let y = m .b .players in
     let sheet : List ℕ = replicate 16 0 in
     let laid = found-laid (a .ids .now) (x ++ y) sheet (k .result) everyone passed (k .ensures .0) (k .ensures .1) in
     let f : ℕ → ℕ = λ p. rowOf p (a .ids .now) in
-    let fit = seats-fit (a .proposed .a .players) (a .proposed .b .players) (a .proposed .a .len) (a .proposed .b .len) (eight-in-a (c .before .before .before .before .before .before .before .before .before .before .before .before .before .before .before .before .before .before .before .before .before .before .before .before .before .before .before .before)) (eight-in-b (c .before .before .before .before .before .before .before .before .before .before .before .before .before .before .before .before .before .before .before .before .before .before .before .before .before .before .before .before)) refl refl in
+    let fit = seats-fit (a .proposed .a .players) (a .proposed .b .players) (a .proposed .a .len) (a .proposed .b .len) (eight-in-a (c .before .before .before .before .before .before .before .before .before .before .before .before .before .before .before .before .before .before .before .before .before .before .before .before .before .before .before .before .before)) (eight-in-b (c .before .before .before .before .before .before .before .before .before .before .before .before .before .before .before .before .before .before .before .before .before .before .before .before .before .before .before .before .before)) refl refl in
     let room : length x + length y ≤ 16 = omega (arith, length-append x y) in
     let waits = ap (λ (k : Columns). columnWait (a .clock) (take (a .queue .len) (k .players)) (take (a .queue .len) (k .joined))) (c .before .before .before .before .before .before .before .before .before .before .columns .ensures) ∙ waits-by-columns (a .queue .entries) (a .queue .len) (a .clock) in
     let wait = c .before .longest-wait .ensures ∙ longest-known everyone waits in
     let s = score-of-rows (a .self) (a .ids .now) (a .ratings .now) (a .deviations .now) (queueOf (a .queue) .entries) (a .clock) m (first .0) (second .0) (rows-first f x y sheet room laid) (rows-second f x y sheet room laid) (rows-all f x y sheet room laid) wait in
-    score-given (a .self) r (queueOf (a .queue)) (a .clock) m seated-fit (le-ltb _ _ (c .before .before .before .before .before .before .before .before .before .before .before .before .before .before .before .before .before .before .before .before .before .if2 .left)) _ (k .ensures .0) passed
+    score-given (a .self) r (queueOf (a .queue)) (a .clock) m seated-fit (le-ltb _ _ (c .before .before .before .before .before .before .before .before .before .before .before .before .before .before .before .before .before .before .before .before .before .before .if2 .left)) _ (k .ensures .0) passed
     (sym (c .before .before .before .before .before .before .before .before .before .before .before .before .is-late .ensures) ∙ c .before .before .before .before .before .before .before .before .before .before .before .if3 .left) (sym late ∙ c .before .before .before .before .before .if4 .left) (c .score-by-rows .ensures ∙ s)
 
 pub score-spec : {M : Type 1} → statement M

@@ -1,5 +1,4 @@
 -- `MatchObjective::score_by_rows` meets its contract, by those of the four it calls.
-use Prim.Native.Nat.{_≤_}
 use mathlib.Core.Path.{_≡_, refl, sym}
 use native.Mathlib.Omega.{arith}
 use lib.ListN.{length}
