@@ -3,15 +3,17 @@
 use Prim.Native.Nat.{ℕ, zero, suc, _+_, _-_, _*_, _≤_, _<_}
 use mathlib.Core.Path.{_≡_, refl, sym, ap, _∙_, subst}
 use mathlib.Core.Bool.{Bool, true, false, cond, _||_}
-use mathlib.Core.List.{List, [], _∷_, _++_, map, map-map}
+use mathlib.Core.List.{List, [], _∷_, _++_, map, map-map, map-append}
 use mathlib.Core.Option.{Option·getD}
-use native.Mathlib.Nat.{le-of-suc-le-suc, not-suc-le-zero}
+use native.Mathlib.Nat.{le-of-suc-le-suc, not-suc-le-zero, suc-mul, mul-le-mul-right}
+use native.Mathlib.Numerals.{add-one}
 use native.Mathlib.Omega.{arith}
 use borrow.Author.Tests.{lt-ltb, le-ltb, eq-eqb, ne-eqb}
 use lib.Dec.{ltb, eqb}
 use lib.Ieee.{Float}
 use lib.ListN.{length, take, drop, getD, set, replicate, length-map, length-drop, length-append, length-take, length-replicate, List·getD-map}
-use lib.Seq.{length-take-le, take-all, take-take, take-at, getD-take}
+use lib.Seq.{length-take-le, take-all, take-nil, take-take, take-add, take-at, getD-take, getD-drop}
+use borrow.Rule.Slice.PartMut.{putMid}
 use Rattle.base.specs.declared.Checked.{Checked}
 use Rattle.base.specs.declared.Checked.the-variants.{Passed, Refused}
 use Rattle.base.specs.declared.Refusal.{Refusal}
@@ -33,13 +35,14 @@ use Rattle.matchmaker.specs.Quality.{MatchState, seated}
 use Rattle.ranking.specs.declared.Ranked.{Ranked}
 use Rattle.ranking.specs.declared.Ascent.{Ascent}
 use Rattle.ranking.specs.Order.{scoreOf, numbered, ascentOf, risingRule}
+use Rattle.ranking.proofs.Counting.{place-below}
 use Rattle.ranking.proofs.Turning.{length-rising-places, rising-places-below, not-risen}
 use Rattle.ranking.proofs.Places.{placesFrom, places, rankedAt, listed-places, sorted-places}
 use Rattle.seating.specs.declared.TeamComposition.{TeamComposition}
 use Rattle.seating.specs.Seating.{Sheets, sizesOver, areShort, seatsOf, seats}
 use Rattle.seating.specs.Steps.{overlaid}
 use Rattle.seating.proofs.Handing.{handed-refused, handed-on, handed-out}
-use Rattle.seating.proofs.Laws.{overlaid-cut, length-seats}
+use Rattle.seating.proofs.Laws.{overlaid-cut, lent-second, length-seats}
 use Rattle.search.specs.Greedy.{greedyCheck}
 use Rattle.candidate.specs.Nearest.{thousand, ratingFor, rising, chunks, nearestMatches, cannotRank, nearestRule}
 use Rattle.candidate.specs.Steps.{ratingBy, howMany}
@@ -157,24 +160,56 @@ module _ (s : TeamComposition) where
 abbrev pub atPlaces : List ℕ → List ℕ → ℕ → List ℕ
 atPlaces ws places n = map (λ p. getD ws p 0) (take n places)
 
-module _ (ws places : List ℕ) (n : ℕ) (fits : n ≤ length places) where
+-- what holds of the first n holds of a part of them
+pub all-part : {A : Type 0} (P : A → Type 0) (at k n : ℕ) (xs : List A) → at + k ≤ n → All P (take n xs) → All P (take k (drop at xs))
+all-part P zero k n xs h a = rw (← take-take k n xs (omega arith)) (all-take P k (take n xs) a)
+all-part P (suc at) k n [] h a = rw (take-nil k) tt
+all-part P (suc at) k zero (x ∷ xs) h a = absurd (omega arith)
+all-part P (suc at) k (suc n) (x ∷ xs) h a = all-part P at k n xs (omega arith) (a .1)
+
+-- one match: the players at n places from `at` on, over the front of a part of the sheet
+module _ (ws places : List ℕ) (at n : ℕ) (fits : at + n ≤ length places) where
   abbrev row : List ℕ
-  row = atPlaces ws places n
+  row = atPlaces ws (drop at places) n
+
+  held : n ≤ length (drop at places)
+  held = omega (arith, length-drop at places)
 
   length-at : length row ≡ n
-  length-at = length-map (take n places) (λ p. getD ws p 0) ∙ length-take-le n places fits
+  length-at = length-map (take n (drop at places)) (λ p. getD ws p 0) ∙ length-take-le n (drop at places) held
+
+  -- each place is in range where it is read
+  pub seat-below : (m i : ℕ) → i < n → All (λ p. p < m) (take n (drop at places)) → getD places (at + i) 0 < m
+  seat-below m i h a = rw (getD-drop at places i 0) at (place-below m (drop at places) n i held h a)
 
   -- one more is written
-  pub seat-on : (sheet now : List ℕ) (i : ℕ) → now ≡ take i row ++ drop i sheet → i < n → i < length sheet → set now i (getD ws (getD places i 0) 0) ≡ take (i + 1) row ++ drop (i + 1) sheet
-  seat-on sheet now i inv h room =
-      let e : getD row i 0 ≡ getD ws (getD places i 0) 0 =
-      made-at (λ p. getD ws p 0) (take n places) i 0 0 (rw (length-take-le n places fits) h) ∙ ap (λ (p : ℕ). getD ws p 0) (getD-take n places i 0 h) in
-      rw (inv, ← e) (copy-on row sheet 0 i (omega (arith, length-at)) room)
+  pub seat-on : (part now : List ℕ) (i : ℕ) → now ≡ take i row ++ drop i part → i < n → i < length part → set now i (getD ws (getD places (at + i) 0) 0) ≡ take (i + 1) row ++ drop (i + 1) part
+  seat-on part now i inv h room =
+      let e : getD row i 0 ≡ getD ws (getD places (at + i) 0) 0 =
+      made-at (λ p. getD ws p 0) (take n (drop at places)) i 0 0 (rw (length-take-le n (drop at places) held) h)
+      ∙ ap (λ (p : ℕ). getD ws p 0) (getD-take n (drop at places) i 0 h ∙ getD-drop at places i 0) in
+      rw (inv, ← e) (copy-on row part 0 i (omega (arith, length-at)) room)
 
   -- all are written
-  pub seat-end : (sheet now : List ℕ) (i : ℕ) → now ≡ take i row ++ drop i sheet → i ≡ n → n ≤ length sheet → now ≡ overlaid row sheet
-  seat-end sheet now i inv e room =
-      inv ∙ overlaid-cut row sheet i (omega (arith, length-at))
+  pub seat-end : (part now : List ℕ) (i : ℕ) → now ≡ take i row ++ drop i part → i ≡ n → n ≤ length part → now ≡ overlaid row part
+  seat-end part now i inv e room = inv ∙ overlaid-cut row part i (omega (arith, length-at))
+
+-- a match more, in the part that was lent behind the matches so far
+pub match-on : (ws places : List ℕ) (at seats : ℕ) (sheet now : List ℕ) {l : List ℕ} → at ≤ length places → at ≤ length sheet → now ≡ overlaid (atPlaces ws places at) sheet → l ≡ overlaid (atPlaces ws (drop at places) seats) (take (length now - at) (drop at now)) → putMid at (length now - at) now l ≡ overlaid (atPlaces ws places (at + seats)) sheet
+match-on ws places at seats sheet now fits room inv h =
+    let f : ℕ → ℕ = λ p. getD ws p 0 in
+    let n : length (atPlaces ws places at) ≡ at = length-map (take at places) f ∙ length-take-le at places fits in
+    let e : atPlaces ws places at ++ atPlaces ws (drop at places) seats ≡ atPlaces ws places (at + seats) =
+    sym (map-append f (take at places) (take seats (drop at places))) ∙ ap (map f) (sym (take-add at seats places)) in
+    lent-second (atPlaces ws places at) (atPlaces ws (drop at places) seats) sheet at (omega (arith, n)) inv h ∙ ap (λ (r : List ℕ). overlaid r sheet) e
+
+-- the matches so far and one more seat no more than all
+pub match-fits : (count seats i : ℕ) → i < count → i * seats + seats ≤ count * seats
+match-fits count seats i h = let e = mul-le-mul-right seats h in omega (arith, e, suc-mul i seats)
+
+-- and they are one match more
+pub match-counts : (seats i at : ℕ) → at ≡ i * seats → at + seats ≡ (i + 1) * seats
+match-counts seats i at e = rw (e, add-one i) (sym (suc-mul i seats))
 
 -- ---- the order of places, and that of entries
 

@@ -2,8 +2,8 @@
 ghost use mathlib.Core.Path.{_≡_};
 ghost use mathlib.Core.List.{map};
 ghost use mathlib.Core.Option.{Option·getD};
-ghost use Prim.Native.Nat.{_≤_, _<_};
-ghost use lib.ListN.{length, take, getD};
+ghost use Prim.Native.Nat.{_+_, _*_, _≤_, _<_};
+ghost use lib.ListN.{length, take, drop, getD};
 ghost use Rattle.base.specs.Lists.{All};
 ghost use Rattle.base.specs.Refusals.{gives};
 ghost use Rattle.queue.specs.Queue.{queueOf};
@@ -85,16 +85,37 @@ fn matches_of(seats: usize, limit: usize, n: usize) -> usize
     count
 }
 
-// The players at the first `seated` places over the front of the sheet: the matches, laid one behind another.
-fn write_seated(players: Players, places: [usize; 64], seated: usize, sheet: &mut [u64])
-    requires { ⌜ (seated ≤ 64) × (64 ≤ length (now sheet)) ⌝ }
-    requires { ⌜ All (λ p. p < 64) (take seated places) ⌝ }
-    ensures { λ _. ⌜ now (sheet .exit) ≡ overlaid (map (λ p. getD (players .ids) p 0) (take seated places)) (now (sheet .entry)) ⌝ }
+// One match, the players at the `size` places from `at` on, over the front of the part of the sheet that it is lent.
+fn write_match(waiting: &[u64; 64], places: &[usize; 64], at: usize, size: usize, part: &mut [u64])
+    requires { ⌜ (at + size ≤ 64) × (length (now places) ≡ 64) × (size ≤ length (now part)) ⌝ }
+    requires { ⌜ All (λ p. p < 64) (take size (drop at (now places))) ⌝ }
+    ensures { λ _. ⌜ now (part .exit) ≡ overlaid (map (λ p. getD (now (waiting .entry)) p 0) (take size (drop at (now (places .entry))))) (now (part .entry)) ⌝ }
+{
+    let mut i: usize = 0;
+    while i < size {
+        part[i] = waiting[places[at + i]];
+        i += 1;
+    }
+}
+
+// Every match of so many seats into the rest of the sheet, the part behind the matches so far.
+fn write_matches(
+    players: Players,
+    places: [usize; 64],
+    seats: usize,
+    count: usize,
+    sheet: &mut [u64],
+)
+    requires { ⌜ (count * seats ≤ 64) × (64 ≤ length (now sheet)) ⌝ }
+    requires { ⌜ All (λ p. p < 64) (take (count * seats) places) ⌝ }
+    ensures { λ _. ⌜ now (sheet .exit) ≡ overlaid (map (λ p. getD (players .ids) p 0) (take (count * seats) places)) (now (sheet .entry)) ⌝ }
 {
     let waiting = players.ids;
+    let mut at: usize = 0;
     let mut i: usize = 0;
-    while i < seated {
-        sheet[i] = waiting[places[i]];
+    while i < count {
+        write_match(&waiting, &places, at, seats, &mut sheet[at..]);
+        at += seats;
         i += 1;
     }
 }
@@ -137,7 +158,7 @@ impl GreedyNearestGenerator {
         }
         let places = order.places;
         let count = matches_of(seats, self.max, queue.len);
-        write_seated(waiting, places, count * seats, players);
+        write_matches(waiting, places, seats, count, players);
         seating::write_qualities([0.0; 64], count, qualities);
         Formed::Count(count)
     }

@@ -1,5 +1,5 @@
 -- One law for each refusal, one for too few entries, and one for the matches written.
-use Prim.Native.Nat.{ℕ, _*_, _≤_}
+use Prim.Native.Nat.{_*_, _≤_}
 use mathlib.Core.Path.{_≡_, sym, ap, _∙_}
 use mathlib.Core.List.{map}
 use native.Mathlib.Omega.{arith}
@@ -92,17 +92,8 @@ matches-of-requires c κs =
     let z = c .before .before .before .before .before .before .before .if1 .left in
     (omega arith, h .queue)
 
-mul-write-seated : tie.Need-mul-write-seated
-mul-write-seated c =
-    let a = c .before .before .before .before .before .before .before .before .before .before .before .before .before .before .before .before .before .args in
-    let r = ofRatings (a .ids .now) (a .ratings .now) in
-    let h = passed-check (a .sizes) r (queueOf (a .queue)) (length (a .players .now)) (length (a .qualities .now)) _ (c .before .before .before .before .before .before .before .before .before .before .enum-told .given .1) (c .before .before .before .before .before .before .before .before .before .before .before .before .check .ensures) in
-    let m = many-fit (a .sizes) (a .self .max) (a .queue .len) in
-    let e = ap (λ (k : ℕ). k * seatsOf (a .sizes)) (c .matches-of .ensures) in
-    omega (arith, m, e, h .queue)
-
-write-seated-requires : tie.Need-write-seated-requires
-write-seated-requires c κs =
+write-matches-requires : tie.Need-write-matches-requires
+write-matches-requires c κs =
     let a = c .before .before .before .before .before .before .before .before .before .before .before .before .before .before .before .before .before .before .args in
     let r = ofRatings (a .ids .now) (a .ratings .now) in
     let h = passed-check (a .sizes) r (queueOf (a .queue)) (length (a .players .now)) (length (a .qualities .now)) _ (c .before .before .before .before .before .before .before .before .before .before .before .enum-told .given .1) (c .before .before .before .before .before .before .before .before .before .before .before .before .before .check .ensures) in
@@ -141,7 +132,7 @@ returns-5 c =
     let g = has-risen (map (ratingFor r) (take (a .queue .len) (a .queue .entries))) (order-given r (a .queue .entries) (a .queue .len) o (c .before .before .before .before .before .before .before .before .before .before .before .before .before .players .ensures) (c .before .before .before .before .before .before .before .before .before .before .before .before .by-rating .ensures) (c .before .before .before .before .before .before .before .before .before .before .enum-told2 .given .1)) in
     let t = seated-row r (a .queue .entries) (a .queue .len) (c .before .before .before .before .before .before .before .before .matches-of .result * seatsOf (a .sizes)) (o .len) (o .places) (omega (arith, h .queue)) f (c .before .before .before .before .before .before .before .before .before .before .before .before .before .players .ensures) (g .1) in
     let c2 = e ∙ ap (howMany (seatsOf (a .sizes)) (a .self .max)) (sym l) in
-    nearest-given (a .self .max) (a .sizes) r (queueOf (a .queue)) (record { players = a .players .now; qualities = a .qualities .now }) _ (c .before .before .before .before .before .before .before .before .before .before .before .before .before .before .before .before .before .before .before .before .check .ensures) (c .before .before .before .before .before .before .before .before .before .before .before .before .before .before .before .before .before .before .enum-told .given .1) (c .before .before .before .before .before .before .before .before .before .before .before .before .before .before .before .before .if1 .left) (omega (arith, l, c .before .before .before .before .before .before .before .before .before .before .before .before .before .before .if2 .left)) (g .0) c2 (t .1) (omega (arith, l, h .queue)) (h .players-fit) (h .qualities-fit) (c .before .before .before .before .before .before .write-seated .ensures) (c .before .before .write-qualities .ensures)
+    nearest-given (a .self .max) (a .sizes) r (queueOf (a .queue)) (record { players = a .players .now; qualities = a .qualities .now }) _ (c .before .before .before .before .before .before .before .before .before .before .before .before .before .before .before .before .before .before .before .before .check .ensures) (c .before .before .before .before .before .before .before .before .before .before .before .before .before .before .before .before .before .before .enum-told .given .1) (c .before .before .before .before .before .before .before .before .before .before .before .before .before .before .before .before .if1 .left) (omega (arith, l, c .before .before .before .before .before .before .before .before .before .before .before .before .before .before .if2 .left)) (g .0) c2 (t .1) (omega (arith, l, h .queue)) (h .players-fit) (h .qualities-fit) (c .before .before .before .before .before .before .write-matches .ensures) (c .before .before .write-qualities .ensures)
 
 pub generate-candidates-spec : {M : Type 1} → statement M
 generate-candidates-spec =
@@ -160,8 +151,7 @@ generate-candidates-spec =
     returns-4
     enum-told-2
     matches-of-requires
-    mul-write-seated
-    write-seated-requires
+    write-matches-requires
     write-qualities-requires
     same-length
     same-length-2
