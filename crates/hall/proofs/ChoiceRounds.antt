@@ -16,7 +16,7 @@ use Rattle.base.specs.Floats as Floats
 use Rattle.base.specs.Lists.{any, All}
 use Rattle.base.specs.Refusals.{Outcome, refused, gives, guarded, refusalNumber, checkedOf}
 use Rattle.base.proofs.Cases.{never}
-use Rattle.base.proofs.Checks.{neither, guard-refuses, guard-passes}
+use Rattle.base.proofs.Checks.{neither, guard-refuses, guard-passes, passed-to}
 use Rattle.queue.specs.Time.{late}
 use Rattle.queue.specs.Queue.{QueueState, isLate, holding, withoutAll}
 use Rattle.queue.proofs.Laws.{none-named}
@@ -35,7 +35,7 @@ use Rattle.choice.proofs.FullLaws.{chosen-best}
 use Rattle.hall.specs.Hall.{HallState, isOver}
 use Rattle.hall.specs.Rounds.{full, RoundCall, listOf, selected, roundFound}
 use Rattle.hall.specs.Steps.{departed, fullCheck, matchesFrom, turnFrom}
-use Rattle.hall.proofs.RoundLaws.{seats-leave, passed-to}
+use Rattle.hall.proofs.RoundLaws.{seats-leave}
 
 -- ---- the check
 

@@ -9,12 +9,13 @@ use Rattle.base.proofs.Members.{length-remove, length-stay}
 use Rattle.queue.specs.declared.QueueEntry.{QueueEntry}
 use Rattle.matchmaker.specs.Quality.{MatchState}
 use Rattle.seating.specs.Seating.{seats}
+use Rattle.search.proofs.Drawn.{Drawn}
 use Rattle.hall.specs.Hall.{HallState, book, withdraw, deal, signed, Judgement, known, clash, full, fresh, judge, Turn, turn}
 use Rattle.hall.specs.Rounds.{sizesOf}
 use Rattle.hall.specs.Calls.{Call, keyed, round, answered, Step, step, after, answers, mark, isOriginal, isBooking, isWithdrawal, matchesOf, taken, one, acceptedIn, withdrawnIn, seatedIn}
 use Rattle.hall.specs.declared.Booking.{Booking}
 use Rattle.hall.proofs.Keys.{book-elim, withdraw-elim, signatures, toMark, mark-judge}
-use Rattle.hall.proofs.Found.{Drawn, findings}
+use Rattle.hall.proofs.Found.{findings}
 use Rattle.hall.proofs.Orderly.{waits, Sane, served, step-served, sane-step, drawnFrom, drawn, told, left}
 use Rattle.hall.proofs.Thin.{grow-step}
 
@@ -63,7 +64,7 @@ balance-served h (round c) s =
     let ms : List MatchState = drawnFrom (findings c (h .waiting .entries)) in
     let r : Drawn (sizesOf (c .round)) (h .waiting .entries) ms = drawn h c s in
     rw (told h c s, left h c)
-    (omega (arith, length-stay (λ (e : QueueEntry). e .player) (seats ms) (h .waiting .entries) (r .different) (r .queued) (s .orderly .players)))
+    (omega (arith, length-stay (λ (e : QueueEntry). e .player) (seats ms) (h .waiting .entries) (r .seating .different) (r .seating .waiting) (s .orderly .players)))
 
 -- and so is every step
 balance-step : (h : HallState) (c : Call) → Sane h → Balanced h c (step h c)

@@ -8,12 +8,13 @@ use Rattle.base.specs.Refusals.{Outcome, refused, gives}
 use Rattle.base.proofs.Cases.{never}
 use Rattle.seating.specs.declared.TeamComposition.{TeamComposition}
 use Rattle.seating.specs.Seating.{handedOut}
+use Rattle.search.specs.Seats.{Seating}
 use Rattle.choice.specs.Full.{Terms}
 use Rattle.hall.specs.Hall.{HallState, empty, Deed, kindOf, playerOf}
 use Rattle.hall.specs.Rounds.{RoundCall, full, sizesOf, Found, matchesIn, triedIn, qualityBy}
 use Rattle.hall.specs.Calls.{Call, keyed, round, Answer, handed, Step, step, after, answers, mark, original, resend, originals, leave, matchesOf}
-use Rattle.hall.specs.Demand.{Seating, FullRound, answerIn, Thinned, Demand3}
-use Rattle.hall.proofs.Found.{Drawn, findings, findings-best}
+use Rattle.hall.specs.Demand.{FullRound, answerIn, Thinned, Demand3}
+use Rattle.hall.proofs.Found.{findings, findings-best}
 use Rattle.hall.proofs.Orderly.{Sane, step-served, sane-after, sane-empty, drawnFrom, drawn, told, grows}
 use Rattle.hall.proofs.Thin.{grow-after, Left, left-out}
 use Rattle.hall.proofs.Resend.{after-append, named}
@@ -49,9 +50,7 @@ told-step h c s = ap (λ (t : Step). matchesOf (round c) (t .answer)) (step-serv
 -- so they seat different players who waited just before, A and B in each
 seating : (h : HallState) (c : RoundCall) → Sane h → Seating (sizesOf (c .round)) (h .waiting .entries) (matchesOf (round c) (step h (round c) .answer))
 seating h c s =
-    subst (Seating (sizesOf (c .round)) (h .waiting .entries)) (sym (told-step h c s))
-    (let r : Drawn (sizesOf (c .round)) (h .waiting .entries) (drawnFrom (findings c (h .waiting .entries))) = drawn h c s in
-    record { sizes = r .sizes; different = r .different; waiting = r .queued })
+    subst (Seating (sizesOf (c .round)) (h .waiting .entries)) (sym (told-step h c s)) (drawn h c s .seating)
 
 -- a full round not refused
 fulls : (h : HallState) (s : TeamComposition) (t : Terms) (c : RoundCall) (n : ℕ) → Sane h → c .round ≡ full s t → answerIn (step h (round c) .answer) ≡ gives n → FullRound t s (h .waiting .entries) (matchesOf (round c) (step h (round c) .answer))

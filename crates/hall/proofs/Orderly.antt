@@ -15,13 +15,14 @@ use Rattle.queue.specs.Queue.{QueueState, isOf, isOfAny, withoutAll}
 use Rattle.queue.specs.declared.QueueEntry.{QueueEntry}
 use Rattle.queue.proofs.Laws.{none-named}
 use Rattle.matchmaker.specs.Quality.{MatchState}
-use Rattle.seating.specs.Seating.{handedOut, seats}
+use Rattle.seating.specs.Seating.{handedOut, seats, readOff}
+use Rattle.search.proofs.Drawn.{Drawn, drawn-none, drawn-told}
 use Rattle.hall.specs.Hall.{HallState, LogState, empty, isOver, Deed, book, withdraw, deal, signed, fresh, judge, Turn, turn}
 use Rattle.hall.specs.Rounds.{RoundCall, sizesOf, Found, matchesIn, triedIn, qualityBy, leaving}
-use Rattle.hall.specs.Calls.{Call, keyed, round, answered, handed, Step, step, after, readOff, matchesOf}
+use Rattle.hall.specs.Calls.{Call, keyed, round, answered, handed, Step, step, after, matchesOf}
 use Rattle.hall.specs.Demand.{Orderly, Grown}
 use Rattle.hall.proofs.Keys.{book-elim, withdraw-elim, turn-elim, read-back, Readable, New, judge-fresh, unnoted-absent}
-use Rattle.hall.proofs.Found.{Drawn, drawn-none, findings, findings-drawn, read-off-laid}
+use Rattle.hall.proofs.Found.{findings, findings-drawn}
 
 -- a player waits by the entries exactly where the player's number is among theirs
 pub waits : (p : ℕ) (ws : List QueueEntry) → member p (map (λ e. e .player) ws) ≡ any (isOf p) ws
@@ -134,7 +135,7 @@ told h c s = go (findings c (h .waiting .entries)) (drawn h c s)
     go : (x : Outcome Found) → Drawn (sizesOf (c .round)) (h .waiting .entries) (drawnFrom x) →
         matchesOf (round c) (handed (handedOut (qualityBy (c .round)) (matchesIn x) (c .sheets)) (triedIn x)) ≡ drawnFrom x
     go (refused n) r = refl
-    go (gives f) r = read-off-laid (sizesOf (c .round)) (h .waiting .entries) (f .matches) (c .sheets .players) r
+    go (gives f) r = drawn-told (sizesOf (c .round)) (h .waiting .entries) (qualityBy (c .round)) (c .sheets) (f .matches) r
 
 -- those whom they seat leave
 pub left : (h : HallState) (c : RoundCall) → served h (round c) .hall .waiting .entries ≡ withoutAll (seats (drawnFrom (findings c (h .waiting .entries)))) (h .waiting .entries)

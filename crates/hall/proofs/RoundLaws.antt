@@ -14,7 +14,7 @@ use Rattle.base.specs.declared.Refusal.{Refusal}
 use Rattle.base.specs.Lists.{any, All}
 use Rattle.base.specs.Refusals.{Outcome, refused, gives, guarded, refusalNumber, checkedOf}
 use Rattle.base.proofs.Cases.{never}
-use Rattle.base.proofs.Checks.{neither, guard-refuses, guard-passes}
+use Rattle.base.proofs.Checks.{neither, guard-refuses, guard-passes, passed-to}
 use Rattle.queue.specs.Time.{late}
 use Rattle.queue.specs.Queue.{isLate, withoutAll, holding, Parting, parting}
 use Rattle.roster.specs.Roster.{Roster, ratingsCheck, deviationsCheck}
@@ -22,7 +22,7 @@ use Rattle.matchmaker.specs.Quality.{MatchState, seated, qualityOf}
 use Rattle.seating.specs.declared.TeamComposition.{TeamComposition}
 use Rattle.seating.specs.declared.Formed.{Formed}
 use Rattle.seating.specs.declared.Formed.the-variants.{Count}
-use Rattle.seating.specs.Seating.{Sheets, HandedOut, sizesOver, seatsOf, areShort, seats, handedOut, formedOf}
+use Rattle.seating.specs.Seating.{Sheets, HandedOut, sizesOver, seatsOf, areShort, seats, handedOut, formedOf, countIn}
 use Rattle.seating.proofs.Laws.{length-seats}
 use Rattle.search.specs.Greedy.{greedyMatches, greedyCheck, greedyRule}
 use Rattle.search.specs.Beam.{beaming, beamMatches, beamCheck, beamRule}
@@ -33,7 +33,7 @@ use Rattle.search.proofs.Sheets.{beam-fit}
 use Rattle.objective.specs.declared.score.MatchObjective.{MatchObjective}
 use Rattle.hall.specs.Hall.{HallState, isOver}
 use Rattle.hall.specs.Rounds.{greedy, beam, RoundCall, untried, qualityBy, roundFound, roundRule}
-use Rattle.hall.specs.Steps.{countIn, departed, turnFrom}
+use Rattle.hall.specs.Steps.{departed, turnFrom}
 
 -- ---- how the seated leave
 
@@ -155,11 +155,6 @@ module _ (quality : MatchState → Float) (sheets : Sheets) where
   given-of : (o : Outcome (List MatchState)) {f : Outcome ℕ} {n : ℕ} {s : Sheets} → f ≡ gives n → record { answer = f; sheets = s } ≡ handedOut quality o sheets → (ms : List MatchState) × (o ≡ gives ms)
   given-of (refused m) {n = n} t e = never (let k : _≡_ {A = Outcome ℕ} (gives n) (refused m) = sym t ∙ ap (λ (x : HandedOut). x .answer) e in cc)
   given-of (gives ms) t e = (ms, refl)
-
--- what stands behind a check was given: the check passed
-pub passed-to : {A : Type 0} (o : Outcome Unit) (v : Outcome A) {x : A} → guarded o v ≡ gives x → (gives tt ≡ o) × (v ≡ gives x)
-passed-to (refused n) v e = never cc
-passed-to (gives u) v e = (refl, e)
 
 -- ---- the beam round
 

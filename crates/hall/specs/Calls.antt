@@ -1,17 +1,16 @@
 -- Document 01, "Hall (added)": lists of calls, their originals and resends, and the numbers that demand 3 speaks of.
-use Prim.Native.Nat.{ℕ, zero, suc, _+_}
+use Prim.Native.Nat.{ℕ, _+_}
 use mathlib.Core.Bool.{Bool, true, false, cond, _&&_}
 use mathlib.Core.List.{List, [], _∷_, _++_}
 use mathlib.Core.Option.{Option, none, some}
 use lib.Dec.{eqb, ltb}
-use lib.ListN.{length, take, drop}
+use lib.ListN.{length}
 use Rattle.base.specs.Refusals.{Outcome, refused, gives}
 use Rattle.base.specs.Lists.{seek, member}
 use Rattle.queue.specs.Queue.{withoutFirst, withoutAll}
 use Rattle.queue.specs.declared.QueueEntry.{QueueEntry}
 use Rattle.matchmaker.specs.Quality.{MatchState}
-use Rattle.seating.specs.declared.TeamComposition.{TeamComposition}
-use Rattle.seating.specs.Seating.{HandedOut, seatsOf, lineup, seats}
+use Rattle.seating.specs.Seating.{HandedOut, seats, toldBy}
 use Rattle.hall.specs.Hall.{HallState, Deed, book, withdraw, entryOf, Signature, signed, keyedRule}
 use Rattle.hall.specs.Rounds.{RoundCall, sizesOf, roundRule}
 
@@ -109,21 +108,12 @@ unfoldable pub different : List ℕ → List ℕ → List ℕ
 different seen [] = seen
 different seen (k ∷ ks) = different (cond (member k seen) seen (seen ++ (k ∷ []))) ks
 
--- ---- matches, read off the guest sheet: "the first count x (A + B) places, A then B"
-
-unfoldable pub readOff : TeamComposition → ℕ → List ℕ → List MatchState
-readOff s zero players = []
-readOff s (suc n) players =
-    lineup (take (s .a) players) (take (s .b) (drop (s .a) players)) ∷ readOff s n (drop (seatsOf s) players)
-
-abbrev pub countIn : Outcome ℕ → ℕ
-countIn (refused n) = 0
-countIn (gives n) = n
+-- ---- matches, as the answer and the guests' sheet of a round tell them
 
 abbrev pub matchesOf : Call → Answer → List MatchState
 matchesOf (keyed k d) a = []
 matchesOf (round c) (answered a) = []
-matchesOf (round c) (handed h tried) = readOff (sizesOf (c .round)) (countIn (h .answer)) (h .sheets .players)
+matchesOf (round c) (handed h tried) = toldBy (sizesOf (c .round)) h
 
 -- ---- the numbers
 

@@ -17,11 +17,6 @@ use Rattle.seating.specs.Seating.{Sheets, sizesOver, areShort, handedOut}
 use Rattle.hall.specs.Hall.{HallState, isOver}
 use Rattle.hall.specs.Rounds.{Found, RoundTurn, matchesIn, triedIn, leaving}
 
--- how many matches were handed out
-abbrev pub countIn : Outcome ℕ → ℕ
-countIn (refused n) = 0
-countIn (gives n) = n
-
 -- the hall without those in the first places of the sheet, `each` for every match; a refused round changes nothing
 abbrev pub departed : HallState → Outcome ℕ → ℕ → List ℕ → HallState
 departed h (refused n) each sheet = h

@@ -17,3 +17,4 @@ pub mod Slides
 pub mod Marks
 pub mod Scores
 pub mod Standings
+pub mod Drawn

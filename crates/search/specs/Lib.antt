@@ -1,4 +1,5 @@
 pub mod Turns
+pub mod Seats
 pub mod Greedy
 pub mod Beam
 pub mod Steps

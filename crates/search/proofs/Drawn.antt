@@ -1,0 +1,55 @@
+-- Greedy and beam search over any queue, doubles included: the matches, and what a sheet tells of them.
+use mathlib.Core.Path.{_≡_, refl}
+use mathlib.Core.List.{List, []}
+use lib.Ieee.{Float}
+use Rattle.base.specs.Refusals.{Outcome, refused, gives}
+use Rattle.base.specs.Lists.{All}
+use Rattle.queue.specs.declared.QueueEntry.{QueueEntry}
+use Rattle.roster.specs.Roster.{Roster}
+use Rattle.matchmaker.specs.Quality.{MatchState}
+use Rattle.seating.specs.declared.TeamComposition.{TeamComposition}
+use Rattle.seating.specs.Seating.{Sheets, lineup, seats, handedOut, readOff, toldBy}
+use Rattle.seating.proofs.Telling.{lined-up, told-matches}
+use Rattle.search.specs.Greedy.{greedyMatches}
+use Rattle.search.specs.Beam.{Beaming, beamMatches}
+use Rattle.search.specs.Seats.{Seating}
+use Rattle.search.proofs.Seating.{all-so}
+use Rattle.search.proofs.Seats.{greedy-sized, greedy-stated, greedy-different, greedy-queued}
+use Rattle.search.proofs.BeamSeats.{beam-sized, beam-stated, beam-different, beam-queued}
+
+-- matches drawn from a queue, each just the lineup of its players
+pub record Drawn (s : TeamComposition) (queue : List QueueEntry) (ms : List MatchState) : Type 0 where
+  pub seating : Seating s queue ms
+  pub lined : All (λ m. m ≡ lineup (m .a .players) (m .b .players)) ms
+
+-- no match at all
+pub drawn-none : (s : TeamComposition) (queue : List QueueEntry) → Drawn s queue []
+unfolding seats
+drawn-none s queue = record { seating = record { sizes = tt; different = tt; waiting = tt }; lined = tt }
+
+-- greedy's matches
+pub greedy-drawn : (s : TeamComposition) (r : Roster) (queue : List QueueEntry) → Drawn s queue (greedyMatches s r queue)
+greedy-drawn s r queue =
+    record {
+      seating = record { sizes = greedy-sized s r queue; different = greedy-different s r queue; waiting = greedy-queued s r queue };
+      lined = all-so _ _ lined-up (greedyMatches s r queue) (greedy-stated s r queue);
+    }
+
+-- the beam's, by any score, where no ranking is refused
+pub beam-drawn : (g : Beaming) (queue : List QueueEntry) (ms : List MatchState) → beamMatches g queue ≡ gives ms → Drawn (g .sizes) queue ms
+beam-drawn g queue ms e =
+    record {
+      seating = record { sizes = beam-sized g queue ms e; different = beam-different g queue ms e; waiting = beam-queued g queue ms e };
+      lined = all-so _ _ lined-up ms (beam-stated g queue ms e);
+    }
+
+module _ (s : TeamComposition) (queue : List QueueEntry) (quality : MatchState → Float) (sheets : Sheets) where
+  -- a call that hands such matches out tells them
+  pub drawn-told : (ms : List MatchState) → Drawn s queue ms → toldBy s (handedOut quality (gives ms) sheets) ≡ ms
+  drawn-told ms d = told-matches s quality ms sheets (d .seating .sizes) (d .lined)
+
+  -- so what any call tells is so seated, and nothing where it is refused
+  pub told-seating : (o : Outcome (List MatchState)) → ((ms : List MatchState) → o ≡ gives ms → Drawn s queue ms) → Seating s queue (toldBy s (handedOut quality o sheets))
+  unfolding readOff
+  told-seating (refused n) h = drawn-none s queue .seating
+  told-seating (gives ms) h = let d : Drawn s queue ms = h ms refl in rw (drawn-told ms d) (d .seating)
