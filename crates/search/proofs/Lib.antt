@@ -18,3 +18,7 @@ pub mod Marks
 pub mod Scores
 pub mod Standings
 pub mod Drawn
+pub mod Copies
+pub mod BeamCopies
+pub mod OtherCopies
+pub mod OldCounter

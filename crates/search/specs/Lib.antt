@@ -1,7 +1,9 @@
 pub mod Turns
 pub mod Seats
 pub mod Greedy
+pub mod Copies
 pub mod Beam
+pub mod OldCounter
 pub mod Steps
 pub mod Levels
 pub mod Expanding
