@@ -33,7 +33,18 @@ pub trait Function {
         None
     }
     fn library(case: &Self::Case) -> (u8, Self::Answer);
+    /// What an answer must keep by itself, the expected one and the library's alike; else in words what it breaks.
+    fn keeps(_: &Self::Case, _: &Self::Answer) -> Result<(), String> {
+        Ok(())
+    }
+    /// Corners that the report counts, for a case with this refusal due and the library's answer.
+    fn corners(_: &Self::Case, _refusal: u8, _: &Self::Answer) -> Vec<Corner> {
+        Vec::new()
+    }
 }
+
+/// The name of a corner, and whether a case reaches it.
+pub type Corner = (&'static str, bool);
 
 /// A function with stored answers.
 pub trait Stored: Function {
@@ -89,24 +100,49 @@ pub enum Source {
 
 pub struct Verdict {
     pub source: Source,
-    /// The case in words, where library and expectation differ.
+    /// The case in words, where library and expectation differ or one of them breaks what it must keep.
     pub difference: Option<String>,
+    pub corners: Vec<Corner>,
 }
 
-/// Draws a case and runs both sides on it.
+/// Draws a case and judges it.
 pub fn judge<F: Function>(rng: &mut Rng) -> Verdict {
-    let case = F::draw(rng, Scale::Full);
-    let (source, expected) = expected::<F>(&case);
-    let (refusal, answer) = F::library(&case);
+    judge_case::<F>(&F::draw(rng, Scale::Full))
+}
+
+/// Runs both sides on a case.
+pub fn judge_case<F: Function>(case: &F::Case) -> Verdict {
+    let (source, expected) = expected::<F>(case);
+    let (refusal, answer) = F::library(case);
     let wanted = number(source);
     let agrees = refusal == wanted && expected.iter().all(|e| e.same(&answer));
-    let difference = (!agrees).then(|| {
+    let broken = broken::<F>(case, expected.as_ref(), &answer);
+    let corners = F::corners(case, wanted, &answer);
+    let difference = (!agrees || !broken.is_empty()).then(|| {
         let expected = expected.map_or("unknown, the Rust panics".into(), |e| format!("{e:?}"));
         format!(
-            "  case:     {case:?}\n  expected: refusal {wanted}, {expected}\n  library:  refusal {refusal}, {answer:?}"
+            "  case:     {case:?}\n  expected: refusal {wanted}, {expected}\n  library:  refusal {refusal}, {answer:?}{broken}"
         )
     });
-    Verdict { source, difference }
+    Verdict {
+        source,
+        difference,
+        corners,
+    }
+}
+
+/// A line for each side that breaks what it must keep: both may do so and agree.
+fn broken<F: Function>(
+    case: &F::Case,
+    expected: Option<&F::Answer>,
+    library: &F::Answer,
+) -> String {
+    let sides = [("expected", expected), ("library", Some(library))];
+    let faults = sides.into_iter().filter_map(|(side, answer)| {
+        let fault = F::keeps(case, answer?).err()?;
+        Some(format!("\n  broken:   {side}, {fault}"))
+    });
+    faults.collect()
 }
 
 /// A stored line, or none where the Rust panics.
@@ -170,7 +206,8 @@ pub fn caught<T>(run: impl FnOnce() -> T) -> Option<T> {
 mod tests {
     use super::*;
 
-    /// Refuses 3 with 9; its Rust doubles and panics at 5 and 6, where the model knows 6 alone; its library is wrong at 7 and 8.
+    /// Refuses 3 with 9; its Rust doubles and panics at 5 and 6, where the model knows 6 alone; its library is wrong at 7, 8 and
+    /// 12. No answer may be above 20.
     struct Doubling;
 
     thread_local! {
@@ -203,8 +240,18 @@ mod tests {
                 3 => (9, 3),
                 7 => (9, 14),
                 8 => (0, 17),
+                12 => (0, 4),
                 _ => (0, case * 2),
             }
+        }
+        fn keeps(_: &u64, answer: &u64) -> Result<(), String> {
+            match *answer {
+                0..=20 => Ok(()),
+                _ => Err(format!("{answer} is above 20")),
+            }
+        }
+        fn corners(case: &u64, refusal: u8, _: &u64) -> Vec<Corner> {
+            vec![("odd", case % 2 == 1), ("refused", refusal > 0)]
         }
     }
 
@@ -241,6 +288,26 @@ mod tests {
         let wrong = verdict(8).difference.expect("17 is not 16");
         assert!(wrong.contains("refusal 0, 16") && wrong.contains("refusal 0, 17"));
         assert!(verdict(7).difference.is_some());
+    }
+
+    /// At 11 both sides agree on 22, at 12 the Rust alone is above 20.
+    #[test]
+    fn agreeing_on_what_is_broken_is_a_difference() {
+        let both = verdict(11);
+        assert_eq!(both.source, Source::Rust);
+        let both = both.difference.expect("22 is above 20");
+        assert!(both.contains("expected, 22 is above 20"), "{both}");
+        assert!(both.contains("library, 22 is above 20"), "{both}");
+        let rust = verdict(12).difference.expect("24 is above 20");
+        assert!(rust.contains("expected, 24 is above 20"), "{rust}");
+        assert!(!rust.contains("broken:   library"), "{rust}");
+        assert!(verdict(10).difference.is_none());
+    }
+
+    #[test]
+    fn corners_come_with_the_verdict() {
+        assert_eq!(verdict(2).corners, [("odd", false), ("refused", false)]);
+        assert_eq!(verdict(3).corners, [("odd", true), ("refused", true)]);
     }
 
     #[test]

@@ -42,19 +42,23 @@ fn main() {
 
 fn run_families(options: &Options) -> usize {
     println!("{}", tally::heading());
-    let (mut cases, mut differences) = (0, 0);
+    let (mut cases, mut differences, mut corners) = (0, 0, Vec::new());
     for (family, functions) in FAMILIES {
         if options.only.as_ref().is_some_and(|only| only != family) {
             continue;
         }
+        let mut tallies = Vec::new();
         for function in *functions {
             let tally = run(options, family, function);
             println!("{}", tally.line(family, function.name));
             cases += tally.cases;
             differences += tally.differences;
+            tallies.push((function.name, tally));
         }
+        corners.extend(tally::corners(family, &tallies));
     }
     println!("compared: {cases} cases, {differences} differences");
+    corners.iter().for_each(|line| println!("{line}"));
     differences
 }
 
