@@ -1,10 +1,12 @@
 //! What calls bring besides queues.
 
 mod calls;
+mod copies;
 mod rules;
 mod searches;
 
 pub use calls::*;
+pub use copies::*;
 pub use rules::*;
 pub use searches::*;
 

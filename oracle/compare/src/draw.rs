@@ -3,12 +3,14 @@
 //! Each irregularity is rare, so that most cases reach the Rust.
 
 mod choices;
+mod copies;
 mod lists;
 mod rules;
 mod scores;
 mod searches;
 
 pub use choices::*;
+pub use copies::*;
 pub use lists::*;
 pub use rules::*;
 pub use scores::*;

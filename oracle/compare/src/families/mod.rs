@@ -3,6 +3,7 @@
 pub mod candidate;
 pub mod choice;
 pub mod constraint;
+pub mod copies;
 pub mod policy;
 pub mod quality;
 pub mod queue;
@@ -28,6 +29,7 @@ pub const FAMILIES: &[(&str, &[Listed])] = &[
     ("policy", policy::FUNCTIONS),
     ("selection", selection::FUNCTIONS),
     ("search", search::FUNCTIONS),
+    ("copies", copies::FUNCTIONS),
     ("candidate", candidate::FUNCTIONS),
     ("choice", choice::FUNCTIONS),
 ];

@@ -15,16 +15,16 @@ use yilgashe_sys::{self as library, Queue, TeamComposition};
 pub const FUNCTIONS: &[Listed] = &[stored::<GreedySearch>(), stored::<BeamSearch>()];
 
 /// The number of matches, and the sheets after the call.
-type Formed = (usize, Sheets);
+pub(super) type Formed = (usize, Sheets);
 
-struct GreedySearch;
+pub(super) struct GreedySearch;
 
-#[derive(Debug)]
-struct Case {
-    queue: Queue,
-    sizes: TeamComposition,
-    columns: Columns,
-    sheets: Sheets,
+#[derive(Clone, Debug)]
+pub(super) struct Case {
+    pub queue: Queue,
+    pub sizes: TeamComposition,
+    pub columns: Columns,
+    pub sheets: Sheets,
 }
 
 impl Function for GreedySearch {
@@ -91,7 +91,7 @@ impl Stored for GreedySearch {
     }
 }
 
-struct BeamSearch;
+pub(super) struct BeamSearch;
 
 impl Function for BeamSearch {
     const NAME: &'static str = "beam_search";
