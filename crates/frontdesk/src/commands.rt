@@ -1,6 +1,8 @@
 // The commands, by the first word of a line. A line that cannot be served changes nothing.
 use crate::complaints;
 use crate::desk::Desk;
+use crate::entries;
+use crate::entries::Entered;
 use crate::fields;
 use crate::fields::Fields;
 use crate::goals;
@@ -9,6 +11,7 @@ use crate::help;
 use crate::listing;
 use crate::numbers;
 use crate::numbers::Problem;
+use crate::old;
 use crate::print;
 use crate::refusals;
 use crate::rounds;
@@ -21,7 +24,6 @@ use check::same;
 use hall::Booking;
 use hall::Hall;
 use hall::Keyed;
-use roster::Observed;
 
 // Serves a line, unless it is blank or a comment.
 pub fn serve(desk: Desk, text: &[u8], number: u64) -> Desk {
@@ -51,6 +53,9 @@ pub fn serve(desk: Desk, text: &[u8], number: u64) -> Desk {
     }
     if same(name, b"full") {
         return rounds::full(desk, text, heard);
+    }
+    if same(name, b"old") {
+        return old::serve(desk, text, heard);
     }
     settings(desk, text, heard, name)
 }
@@ -174,39 +179,25 @@ pub fn byte(value: u64) -> u8 {
 
 const NEEDED: u32 = fields::KEY | fields::GUEST;
 
-const BOOKED: u32 = NEEDED | fields::JOINED;
+const BOOKED: u32 = fields::KEY | entries::NEEDED;
 
-const BOOKING: u32 = BOOKED | fields::RATING | fields::PARTY | fields::ROLE;
+const BOOKING: u32 = fields::KEY | entries::ALLOWED;
 
 fn book(desk: Desk, text: &[u8], heard: Heard) -> Desk {
     let given = fields::read(text, heard, heard.behind(), BOOKED, BOOKING);
-    if !given.ok {
-        return desk;
-    }
-    let guest = given.whole(fields::GUEST);
-    let roster = desk.roster;
-    let hall = desk.hall;
-    let rating = rating_of(given, roster.rating_of(guest));
-    let Observed::Of(rated) = rating else {
-        complaints::needs_rating(heard, guest);
+    let read = entries::entry_of(desk.roster, given, text, heard);
+    let Entered::As(entry) = read else {
         return desk;
     };
+    let hall = desk.hall;
     let booking = Booking {
-        player: guest,
-        joined: given.whole(fields::JOINED),
-        rating: rated,
-        party: given.whole_or(fields::PARTY, roster.party_of(guest)),
-        role: half(given.whole_or(fields::ROLE, roster.role_of(guest) as u64)),
+        player: entry.player,
+        joined: entry.joined,
+        rating: entry.rating,
+        party: entry.party,
+        role: entry.role,
     };
     told(desk, hall.book(given.whole(fields::KEY), booking))
-}
-
-// The rating that is given, or else the roster's.
-fn rating_of(given: Fields, rostered: Observed) -> Observed {
-    if given.has(fields::RATING) {
-        return Observed::Of(given.real(fields::RATING));
-    }
-    rostered
 }
 
 fn withdraw(desk: Desk, text: &[u8], heard: Heard) -> Desk {
@@ -223,6 +214,6 @@ fn withdraw(desk: Desk, text: &[u8], heard: Heard) -> Desk {
 fn told(desk: Desk, keyed: Keyed) -> Desk {
     let hall = keyed.hall;
     let answer = keyed.answer;
-    refusals::answer(answer);
+    refusals::answer(answer, b"accepted\n");
     desk.with_hall(hall)
 }

@@ -127,10 +127,11 @@ fn needed(field: u32) {
     }
 }
 
-// A booking without a rating for a guest who has no row to take it from.
-pub fn needs_rating(heard: Heard, guest: u64) {
+// No rating is given for a guest who has no row to take it from.
+pub fn needs_rating(text: &[u8], heard: Heard, guest: u64) {
     line(heard.number);
-    print::text(b"book needs rating: guest ");
+    shown(words::bytes_of(text, heard.command));
+    print::text(b" needs rating: guest ");
     io::print_decimal(1, guest);
     print::text(b" has no roster row\n");
 }

@@ -3,6 +3,7 @@ use crate::goals::Goals;
 use crate::guests::Roster;
 use constraint::Constraints;
 use hall::Hall;
+use queue::Queue;
 
 pub struct Desk {
     pub hall: Hall,
@@ -10,6 +11,8 @@ pub struct Desk {
     // For the next full rounds.
     pub rules: Constraints,
     pub goals: Goals,
+    // Exported by the old counter. No call of the hall looks at it.
+    pub old: Queue,
     // Guests of every match that was handed out.
     pub seated: u64,
     // False after quit.
@@ -24,6 +27,7 @@ impl Desk {
             roster: Roster::empty(),
             rules: crate::rules::none(),
             goals: Goals::none(),
+            old: Queue::empty(),
             seated: 0,
             open: true,
         }
@@ -50,6 +54,12 @@ impl Desk {
     pub fn with_goals(self, goals: Goals) -> Desk {
         let mut next = self;
         next.goals = goals;
+        next
+    }
+
+    pub fn with_old(self, old: Queue) -> Desk {
+        let mut next = self;
+        next.old = old;
         next
     }
 

@@ -13,6 +13,7 @@ fn all() {
     print::text(b"one command a line; named fields in any order; what is in [ ] may be left out\n");
     calls();
     rounds();
+    old();
     others();
 }
 
@@ -43,6 +44,18 @@ fn rounds() {
     print::text(
         b"  goal skill 1      goal latency 0.5      goal wait 0.3      goals      goals none\n",
     );
+}
+
+fn old() {
+    print::text(b"  old entry guest 12 joined 30s [rating 1510.5] [party 3] [role 2]\n");
+    print::text(b"  old queue at 120s     old greedy 5+5 at 120s     old clear\n");
+    print::text(
+        b"  old beam 5+5 at 120s [width 8] [quality 1] [wait 0.5] [ping 0] [uncertainty 0.2]\n",
+    );
+    print::text(
+        b"      a queue that the old counter exported, entry by entry; a guest may stand in it twice\n",
+    );
+    print::text(b"      the searches remove nobody, and the hall is not touched\n");
 }
 
 fn others() {

@@ -28,6 +28,9 @@ mod guests;
 // How much of an array is lent.
 mod counts;
 
+// The entry that a line asks for.
+mod entries;
+
 // The commands, by the first word of a line.
 mod commands;
 
@@ -36,6 +39,9 @@ mod rounds;
 
 // The tables that a round seats.
 mod tables;
+
+// A queue that the old counter exported.
+mod old;
 
 // What full rounds must hold to.
 mod rules;

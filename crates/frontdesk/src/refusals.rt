@@ -42,10 +42,10 @@ pub fn refused(refusal: Refusal) {
     print::text(b"\n");
 }
 
-// `accepted`, or the refusal.
-pub fn answer(answer: Checked) {
+// The line for what passed, such as `accepted`, or the refusal.
+pub fn answer(answer: Checked, passed: &[u8]) {
     match answer {
-        Checked::Passed => print::text(b"accepted\n"),
+        Checked::Passed => print::text(passed),
         Checked::Refused(refusal) => refused(refusal),
     }
 }

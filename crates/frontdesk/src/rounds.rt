@@ -9,8 +9,8 @@ use crate::goals::Goals;
 use crate::guests::Roster;
 use crate::numbers::Problem;
 use crate::print;
-use crate::refusals;
 use crate::tables;
+use crate::tables::Before;
 use crate::values;
 use crate::words;
 use crate::words::Heard;
@@ -21,23 +21,44 @@ use objective::score::MatchObjective;
 use seating::Formed;
 use seating::TeamComposition;
 
-const TIMED: u32 = fields::AT;
+pub const TIMED: u32 = fields::AT;
 
-const BEAM: u32 = TIMED
+pub const BEAM: u32 = TIMED
     | fields::WIDTH
     | fields::QUALITY
     | fields::WAIT
     | fields::PING
     | fields::UNCERTAINTY;
 
-// The sizes and the fields of a round.
-struct Asked {
-    sizes: TeamComposition,
-    given: Fields,
+// What a round or a search is asked for; width and objective are a beam's.
+pub struct Asked {
+    pub sizes: TeamComposition,
+    pub clock: u64,
+    pub width: usize,
+    pub objective: MatchObjective,
+    // False once a complaint was made.
+    pub ok: bool,
+}
+
+impl Asked {
+    fn of(sizes: TeamComposition, given: Fields) -> Asked {
+        Asked {
+            sizes: sizes,
+            clock: given.whole(fields::AT),
+            width: given.whole_or(fields::WIDTH, 8) as usize,
+            objective: MatchObjective {
+                quality: given.real_or(fields::QUALITY, 1.0),
+                wait: given.real(fields::WAIT),
+                ping: given.real(fields::PING),
+                uncertainty: given.real(fields::UNCERTAINTY),
+            },
+            ok: given.ok,
+        }
+    }
 }
 
 // `5+5 at 120s ..`
-fn read(text: &[u8], heard: Heard, allowed: u32) -> Asked {
+pub fn read(text: &[u8], heard: Heard, allowed: u32) -> Asked {
     let word = words::next(text, heard.behind());
     let read = values::sizes(words::bytes_of(text, word));
     let sizes = TeamComposition {
@@ -47,129 +68,83 @@ fn read(text: &[u8], heard: Heard, allowed: u32) -> Asked {
     let problem = read.problem;
     let Problem::Nothing = problem else {
         complaints::word(text, heard, b"team sizes such as 5+5", word);
-        return Asked {
-            sizes: sizes,
-            given: Fields::bad(),
-        };
+        return Asked::of(sizes, Fields::bad());
     };
-    Asked {
-        sizes: sizes,
-        given: fields::read(text, heard, word.to, TIMED, allowed),
-    }
+    Asked::of(sizes, fields::read(text, heard, word.to, TIMED, allowed))
 }
 
 pub fn greedy(desk: Desk, text: &[u8], heard: Heard) -> Desk {
     let asked = read(text, heard, TIMED);
-    let given = asked.given;
-    let sizes = asked.sizes;
-    if !given.ok {
+    if !asked.ok {
         return desk;
     }
-    greedy_round(desk, sizes, given.whole(fields::AT))
+    let mut players = [0u64; 64];
+    let rounded = greedy_over(desk.roster, desk.hall, asked, &mut players);
+    seated(desk, rounded, asked, &players)
 }
 
-fn greedy_round(desk: Desk, sizes: TeamComposition, clock: u64) -> Desk {
-    let hall = desk.hall;
-    let roster = desk.roster;
+// The greedy round with the roster's columns lent.
+fn greedy_over(roster: Roster, hall: Hall, asked: Asked, players: &mut [u64]) -> Rounded {
+    let sizes = asked.sizes;
     let ids = roster.ids;
-    let ratings = roster.ratings;
     let n = counts::wholes(roster.rows, &ids);
+    let ratings = roster.ratings;
     let m = counts::reals(roster.rows, &ratings);
-    let mut players = [0u64; 64];
     let mut qualities = [0.0f64; 64];
-    let rounded = hall.greedy_round(
+    hall.greedy_round(
         sizes,
-        clock,
+        asked.clock,
         &ids[..n],
         &ratings[..m],
-        &mut players,
+        players,
         &mut qualities,
-    );
-    seated(desk, rounded, sizes, clock, &players)
+    )
 }
 
 pub fn beam(desk: Desk, text: &[u8], heard: Heard) -> Desk {
     let asked = read(text, heard, BEAM);
-    let given = asked.given;
-    let sizes = asked.sizes;
-    if !given.ok {
+    if !asked.ok {
         return desk;
     }
-    let objective = MatchObjective {
-        quality: given.real_or(fields::QUALITY, 1.0),
-        wait: given.real(fields::WAIT),
-        ping: given.real(fields::PING),
-        uncertainty: given.real(fields::UNCERTAINTY),
-    };
-    let width = given.whole_or(fields::WIDTH, 8) as usize;
-    beam_round(desk, sizes, width, objective, given.whole(fields::AT))
-}
-
-fn beam_round(
-    desk: Desk,
-    sizes: TeamComposition,
-    width: usize,
-    objective: MatchObjective,
-    clock: u64,
-) -> Desk {
-    let hall = desk.hall;
-    let roster = desk.roster;
     let mut players = [0u64; 64];
-    let mut qualities = [0.0f64; 64];
-    let rounded = beam_over(
-        roster,
-        hall,
-        sizes,
-        width,
-        objective,
-        clock,
-        &mut players,
-        &mut qualities,
-    );
-    seated(desk, rounded, sizes, clock, &players)
+    let rounded = beam_over(desk.roster, desk.hall, asked, &mut players);
+    seated(desk, rounded, asked, &players)
 }
 
 // The beam round with the roster's columns lent.
-fn beam_over(
-    roster: Roster,
-    hall: Hall,
-    sizes: TeamComposition,
-    width: usize,
-    objective: MatchObjective,
-    clock: u64,
-    players: &mut [u64],
-    qualities: &mut [f64],
-) -> Rounded {
+fn beam_over(roster: Roster, hall: Hall, asked: Asked, players: &mut [u64]) -> Rounded {
+    let sizes = asked.sizes;
+    let objective = asked.objective;
     let ids = roster.ids;
     let n = counts::wholes(roster.rows, &ids);
     let ratings = roster.ratings;
     let m = counts::reals(roster.rows, &ratings);
     let deviations = roster.deviations;
     let k = counts::reals(roster.rows, &deviations);
+    let mut qualities = [0.0f64; 64];
     hall.beam_round(
         sizes,
-        width,
+        asked.width,
         objective,
-        clock,
+        asked.clock,
         &ids[..n],
         &ratings[..m],
         &deviations[..k],
         players,
-        qualities,
+        &mut qualities,
     )
 }
 
 pub fn full(desk: Desk, text: &[u8], heard: Heard) -> Desk {
     let asked = read(text, heard, TIMED);
-    let given = asked.given;
-    let sizes = asked.sizes;
-    if !given.ok {
+    if !asked.ok {
         return desk;
     }
-    full_round(desk, sizes, given.whole(fields::AT))
+    full_round(desk, asked)
 }
 
-fn full_round(desk: Desk, sizes: TeamComposition, clock: u64) -> Desk {
+fn full_round(desk: Desk, asked: Asked) -> Desk {
+    let sizes = asked.sizes;
     let hall = desk.hall;
     let roster = desk.roster;
     let goals = desk.goals;
@@ -182,11 +157,11 @@ fn full_round(desk: Desk, sizes: TeamComposition, clock: u64) -> Desk {
         sizes,
         rules,
         goals,
-        clock,
+        asked.clock,
         &mut players,
         &mut qualities,
     );
-    let next = seated(desk, rounded, sizes, clock, &players);
+    let next = seated(desk, rounded, asked, &players);
     tell_tried(rounded);
     next
 }
@@ -244,24 +219,18 @@ fn tell_tried(rounded: Rounded) {
 }
 
 // Says what the round gave, and keeps its hall. The waits are those of the queue before the round.
-fn seated(
-    desk: Desk,
-    rounded: Rounded,
-    sizes: TeamComposition,
-    clock: u64,
-    players: &[u64],
-) -> Desk {
+fn seated(desk: Desk, rounded: Rounded, asked: Asked, players: &[u64]) -> Desk {
+    let hall = desk.hall;
+    let waiting = hall.waiting;
+    let roster = desk.roster;
+    let sizes = asked.sizes;
+    let before = Before {
+        waiting: waiting,
+        roster: roster,
+        clock: asked.clock,
+    };
     let answer = rounded.answer;
-    let hall = rounded.hall;
-    match answer {
-        Formed::Refused(refusal) => {
-            refusals::refused(refusal);
-            desk
-        }
-        Formed::Count(count) => {
-            let guests = tables::print(desk, sizes, clock, count, players);
-            let next = desk.with_hall(hall);
-            next.with_seated(guests)
-        }
-    }
+    let guests = tables::print(before, sizes, answer, players);
+    let next = desk.with_hall(rounded.hall);
+    next.with_seated(guests)
 }

@@ -1,16 +1,17 @@
-// The tables that a round seats, each as a small block.
+// The tables that a round or a search seats, each as a small block.
 use crate::counts;
-use crate::desk::Desk;
 use crate::guests::Roster;
 use crate::print;
+use crate::refusals;
 use matchmaker::ProposedMatch;
 use matchmaker::Team;
 use queue::Queue;
 use queue::Waited;
 use roster::Observed;
+use seating::Formed;
 use seating::TeamComposition;
 
-// What the blocks are made from: the queue as it was before the round, the roster and the round's clock.
+// What the blocks are made from: the queue as it was before the round, the roster and the clock.
 pub struct Before {
     pub waiting: Queue,
     pub roster: Roster,
@@ -137,18 +138,18 @@ fn each(before: Before, sizes: TeamComposition, count: usize, players: &[u64]) -
     at as u64
 }
 
-// Every table, or that there is none, and how many guests they seat.
-pub fn print(desk: Desk, sizes: TeamComposition, clock: u64, count: usize, players: &[u64]) -> u64 {
-    let hall = desk.hall;
-    let waiting = hall.waiting;
-    let roster = desk.roster;
-    let before = Before {
-        waiting: waiting,
-        roster: roster,
-        clock: clock,
-    };
-    if count == 0 {
-        print::text(b"no table\n");
+// Every table, or that there is none, or the refusal; and how many guests they seat.
+pub fn print(before: Before, sizes: TeamComposition, formed: Formed, players: &[u64]) -> u64 {
+    match formed {
+        Formed::Refused(refusal) => {
+            refusals::refused(refusal);
+            0
+        }
+        Formed::Count(count) => {
+            if count == 0 {
+                print::text(b"no table\n");
+            }
+            each(before, sizes, count, players)
+        }
     }
-    each(before, sizes, count, players)
 }

@@ -1,0 +1,47 @@
+// The entry that a line asks for, by its fields and the guest's roster row.
+use crate::commands;
+use crate::complaints;
+use crate::fields;
+use crate::fields::Fields;
+use crate::guests::Roster;
+use crate::words::Heard;
+use queue::QueueEntry;
+use roster::Observed;
+
+pub const NEEDED: u32 = fields::GUEST | fields::JOINED;
+
+pub const ALLOWED: u32 = NEEDED | fields::RATING | fields::PARTY | fields::ROLE;
+
+pub enum Entered {
+    // A complaint was made.
+    Nothing,
+    As(QueueEntry),
+}
+
+// Rating, party and role are else those of the guest's row; without a row the rating has to be given.
+pub fn entry_of(roster: Roster, given: Fields, text: &[u8], heard: Heard) -> Entered {
+    if !given.ok {
+        return Entered::Nothing;
+    }
+    let guest = given.whole(fields::GUEST);
+    let rating = rating_of(given, roster.rating_of(guest));
+    let Observed::Of(rated) = rating else {
+        complaints::needs_rating(text, heard, guest);
+        return Entered::Nothing;
+    };
+    Entered::As(QueueEntry {
+        player: guest,
+        joined: given.whole(fields::JOINED),
+        rating: rated,
+        party: given.whole_or(fields::PARTY, roster.party_of(guest)),
+        role: commands::half(given.whole_or(fields::ROLE, roster.role_of(guest) as u64)),
+    })
+}
+
+// The rating that is given, or else the roster's.
+fn rating_of(given: Fields, rostered: Observed) -> Observed {
+    if given.has(fields::RATING) {
+        return Observed::Of(given.real(fields::RATING));
+    }
+    rostered
+}
