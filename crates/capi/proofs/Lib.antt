@@ -4,3 +4,4 @@ pub mod Choices
 pub mod BestChoice
 pub mod HallNumbers
 pub mod Runs
+pub mod OldCounter
