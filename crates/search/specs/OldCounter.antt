@@ -21,17 +21,18 @@ abbrev pub stating : ℕ → List QueueEntry → QueueState
 stating n es = record { size = n; entries = es }
 
 pub record OldCounter (queue : List QueueEntry) : Type 0 where
-  -- "greedy and beam matches seat A + B different queued guests and nobody in two matches"; the beam's by any score, where it gives some
+  -- "greedy and beam matches seat A + B different queued guests and nobody in two matches": the beam's by any score, where it is not refused
   pub greedy : (s : TeamComposition) (r : Roster) → Seating s queue (greedyMatches s r queue)
   pub beam : (g : Beaming) (ms : List MatchState) → beamMatches g queue ≡ gives ms → Seating (g .sizes) queue ms
-  -- so do the matches on the guests' sheet behind a call: `left` is its answer and its sheets at the end, and by its contract the rule's
+  -- so do the matches on the guests' sheet after a call. `left` is what the call leaves, its answer beside its sheets at the end: by the
+  -- contracts of `GreedySearch::search` and `BeamSearch::search` that is what the rule says
   pub greedy-call : (s : TeamComposition) (r : Roster) (n : ℕ) (sheets : Sheets) (left : HandedOut) →
       left ≡ greedyRule s r (stating n queue) sheets → Seating s queue (toldBy s left)
   pub beam-call : (s : TeamComposition) (width : ℕ) (o : MatchObjective) (r : Roster) (n clock : ℕ) (sheets : Sheets) (left : HandedOut) →
       left ≡ beamRule s width o r (stating n queue) clock sheets → Seating s queue (toldBy s left)
   -- "adding later copies of an entry with the same guest and rating bits leaves every match the same"
   pub copies : (s : TeamComposition) (r : Roster) (other : List QueueEntry) → Copied queue other → greedyMatches s r other ≡ greedyMatches s r queue
-  -- so two calls on equal sheets, "where neither queue is refused", end alike: the same count, and both sheets the same
+  -- so two calls of `GreedySearch::search` on equal sheets, "where neither queue is refused", leave the same: count and both sheets
   pub copies-call : (s : TeamComposition) (r : Roster) (other : List QueueEntry) (m n i j : ℕ) (sheets : Sheets) (left right : HandedOut) → Copied queue other →
       left ≡ greedyRule s r (stating m queue) sheets → right ≡ greedyRule s r (stating n other) sheets →
       left .answer ≡ gives i → right .answer ≡ gives j → right ≡ left
