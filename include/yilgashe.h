@@ -453,12 +453,14 @@ typedef struct yilgashe_formed {
     uint8_t refusal;
 } yilgashe_formed;
 
-/* In queue order, each guest draws the nearest ratings to their table; the qualities are those of the matches. */
+/* In queue order, each guest draws the nearest ratings to their table; the qualities are those of the matches. A guest may stand in
+   the queue twice, with other ratings too: nobody is seated twice, and later copies of an entry change no match. */
 yilgashe_formed yilgashe_search_greedy(yilgashe_queue queue, yilgashe_team_composition sizes, const uint64_t *ids, size_t ids_len,
                                        const double *ratings, size_t ratings_len, uint64_t *players, size_t players_len,
                                        double *qualities, size_t qualities_len);
 
-/* In queue order, each guest's table grows by the partial matches of best score. */
+/* In queue order, each guest's table grows by the partial matches of best score. Whoever stands in the queue twice is seated once at
+   most; but a copy counts as one more guest to draw from, and may change the matches. */
 yilgashe_formed yilgashe_search_beam(yilgashe_beam_search search, yilgashe_queue queue, yilgashe_team_composition sizes,
                                      yilgashe_match_objective objective, const uint64_t *ids, size_t ids_len, const double *ratings,
                                      size_t ratings_len, const double *deviations, size_t deviations_len, uint64_t clock,

@@ -27,7 +27,8 @@ fn ways(n: usize, k: usize) -> Option<usize> {
 }
 
 impl Queue {
-    /// In queue order, each guest draws the nearest ratings to the table.
+    /// In queue order, each guest draws the nearest ratings to the table. A guest may stand in the queue twice, with other ratings too:
+    /// nobody is seated twice, and later copies of an entry change no match.
     pub fn greedy(&self, sizes: TeamComposition, roster: &Roster) -> Result<Matches, Refusal> {
         let mut matches = Matches::of_64(sizes);
         let (players, qualities) = matches.lent();
@@ -43,7 +44,8 @@ impl Queue {
         Ok(matches.first(answer.count))
     }
 
-    /// In queue order, each guest's table grows by the `width` partial matches of best score; at most 32 are kept.
+    /// In queue order, each guest's table grows by the `width` partial matches of best score; at most 32 are kept. Whoever stands in the
+    /// queue twice is seated once at most; but a copy counts as one more guest to draw from, and may change the matches.
     pub fn beam(
         &self,
         width: usize,

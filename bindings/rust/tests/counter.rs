@@ -279,3 +279,37 @@ fn queues_and_best_choices() {
     );
     assert_eq!(score, Ok(-1.0));
 }
+
+/// A queue of guests with these ratings; a guest may stand in it twice.
+fn exported(entries: &[(u64, f64)]) -> Queue {
+    let rated = |&(player, rating)| QueueEntry {
+        rating,
+        ..entry(player)
+    };
+    entries.iter().map(rated).collect()
+}
+
+#[test]
+fn a_queue_from_the_old_counter() {
+    const TWO: TeamComposition = TeamComposition { a: 2, b: 2 };
+    let table = [(1, 1000.0), (2, 1280.0), (3, 1010.0), (4, 1090.0)];
+    let roster = rated(&table.map(|(_, rating)| rating));
+    let greedy = |entries: &[(u64, f64)]| exported(entries).greedy(TWO, &roster).unwrap();
+    let plain = greedy(&table);
+    assert_eq!(plain.players(), [1, 4, 3, 2]);
+    // Copies behind their entries change nothing.
+    let [one, two, three, four] = table;
+    let doubled = [one, two, one, three, two, four, three];
+    assert_eq!(greedy(&doubled), plain);
+    // Another rating is no copy: guest 2 is drawn by the nearer one, and sits once.
+    let nearer = greedy(&[one, two, three, four, (2, 1005.0)]);
+    assert_eq!(nearer.players(), [1, 3, 2, 4]);
+    let by_quality = MatchObjective {
+        quality: 1.0,
+        ..MatchObjective::default()
+    };
+    let beam = exported(&doubled).beam(8, TWO, by_quality, &roster, 0);
+    let mut seated = beam.unwrap().players().to_vec();
+    seated.sort_unstable();
+    assert_eq!(seated, [1, 2, 3, 4]);
+}
