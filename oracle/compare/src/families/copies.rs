@@ -312,7 +312,7 @@ mod tests {
     #[test]
     fn a_copy_with_another_rating_shows() {
         let [one, two, three] = NEAR;
-        assert!(broken(&pairs(&NEAR, &[one, two, three, (3, 1001.0)])));
+        assert!(broken(&pairs(&NEAR, &[one, two, three, (3, 1000.0)])));
     }
 
     /// How many of 300 drawn cases, none of them refused, break the law once they are changed.
