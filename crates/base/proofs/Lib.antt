@@ -1,11 +1,12 @@
 pub mod Cases
+pub mod Checks
 pub mod Arrays
 pub mod Loops
 pub mod Members
 pub mod Sheets
 pub mod Sign
 pub mod Order
+pub mod Equal
 pub mod Nan
 pub mod Highest
 pub mod Sorting
-pub mod Checks

@@ -1,6 +1,6 @@
 -- What the tests of `abs` tell of its argument.
 use mathlib.Core.Path.{_≡_, refl, sym, ap, _∙_}
-use mathlib.Core.Bool.{Bool, true, false, _&&_, true≢false}
+use mathlib.Core.Bool.{Bool, true, false, true≢false}
 use Prim.Native.Nat.{ℕ, zero, suc, _+_, _*_, _^_, _<_, _≤_}
 use native.Mathlib.Nat.{mul-pos}
 use native.Mathlib.Numerals.{unary-clauses}
@@ -12,6 +12,7 @@ use lib.Ieee.{Float, nan, inf, fin, binary64, up, down, lt, eq, neg, fits, ofBit
 use lib.Ieee.Fits.{up-pos}
 use borrow.Author.Tests.{ltb-true, ltb-false, eqb-true, eq-eqb}
 use Rattle.base.specs.Floats as F
+use Rattle.base.proofs.Checks.{both-hold}
 
 -- below 0.0: the sign is there
 pub negative : (x : Float) → lt x F.zero ≡ true → neg x ≡ F.absOf x
@@ -28,10 +29,6 @@ only-zero (pos zero) h = refl
 only-zero (pos (suc k)) h = let g = simp unary-clauses at h in let z : ⊥ = omega (arith, pow-pos k) in absurd z
 only-zero (negsuc k) h = let g = simp unary-clauses at h in let z : ⊥ = omega (arith, pow-pos k) in absurd z
 
-and-left : (a b : Bool) → (a && b) ≡ true → a ≡ true
-and-left true b h = refl
-and-left false b h = h
-
 pub at-zero : (x : Float) → fits binary64 x ≡ true → eq x F.zero ≡ true → F.zero ≡ F.absOf x
 unfolding eq F.absOf ofBits fits
 at-zero nan f t = absurd (true≢false (sym t))
@@ -39,7 +36,7 @@ at-zero (inf s) f t = absurd (true≢false (sym t))
 at-zero (fin s zero e) f t = ap (λ (z : ℤ). fin false 0 z) (sym (only-zero e (eqb-true (up e * down e) 1 f)))
 at-zero (fin s (suc m) e) f t =
     let h : 0 < suc m * up e = mul-pos (omega arith) (up-pos e) in
-    let z : ⊥ = omega (arith, eqb-true (suc m * up e * 1) (0 * down e) (and-left (eqb (suc m * up e * 1) (0 * down e)) _ t)) in
+    let z : ⊥ = omega (arith, eqb-true (suc m * up e * 1) (0 * down e) (both-hold (eqb (suc m * up e * 1) (0 * down e)) _ t .0)) in
     absurd z
 
 pub above-zero : (x : Float) → lt x F.zero ≡ false → eq x F.zero ≡ false → x ≡ F.absOf x

@@ -1,7 +1,7 @@
 -- Choices that are idle are only counted.
 use Prim.Native.Nat.{ℕ, zero, suc, _+_, _-_, _≤_, _<_}
 use mathlib.Core.Path.{_≡_, refl, sym, ap, _∙_}
-use mathlib.Core.Bool.{Bool, true, false, not, cond, _&&_}
+use mathlib.Core.Bool.{Bool, true, false, not, cond}
 use mathlib.Core.List.{List, [], _∷_, _++_}
 use mathlib.Core.Option.{none, some}
 use native.Mathlib.Numerals.{sub-one}
@@ -11,6 +11,7 @@ use lib.Dec.{ltb}
 use lib.Ieee.{Float, nan}
 use lib.ListN.{length, take, drop, getD, length-take, length-append}
 use Rattle.base.proofs.Cases.{cases, never}
+use Rattle.base.proofs.Checks.{both-hold}
 use Rattle.roster.specs.Roster.{ofRules}
 use Rattle.matchmaker.specs.Quality.{MatchState, seated}
 use Rattle.seating.specs.declared.TeamComposition.{TeamComposition}
@@ -25,11 +26,6 @@ use Rattle.choice.specs.Sums.{rostered, ratedAt, Filling, idleAt, idleFr
 use Rattle.choice.specs.declared.Sums.{Sums}
 use Rattle.choice.proofs.Summing.{grown-read, last-score, idle-skipped}
 use Rattle.choice.proofs.Lasting.{last-next}
-
--- both of two tests hold
-both-hold : (a b : Bool) → (a && b) ≡ true → (a ≡ true) × (b ≡ true)
-both-hold true b h = (refl, h)
-both-hold false b h = never cc
 
 not-true : (x : Bool) → not x ≡ true → x ≡ false
 not-true true h = never cc

@@ -3,6 +3,7 @@ use mathlib.Core.Path.{_≡_, refl, sym}
 use mathlib.Core.Bool.{Bool, true, false, _&&_}
 use mathlib.Core.List.{List, [], _∷_, map-append}
 use Rattle.base.proofs.Cases.{cases, never}
+use Rattle.base.proofs.Checks.{both-hold}
 use Rattle.hall.specs.Hall.{HallState, deal, signed, Judgement, known, clash, full, fresh, judge, turn}
 use Rattle.hall.specs.Calls.{Call, keyed, round, step, after, answers, growBy, mark, grow, originals, isResend, leave, thin}
 use Rattle.hall.proofs.Keys.{signatureOf, signatures, toMark, mark-judge}
@@ -47,11 +48,6 @@ resend-served h (keyed k d) s e = go (judge (h .log .records) (signed k d)) (rw 
 resend-stays : (h : HallState) (c : Call) → Sane h → isResend (mark (signatures (h .log .records)) c) ≡ true → step h c .hall ≡ h
 resend-stays h c s e = rw (step-served h c s) (resend-served h c s e)
 
--- both hold, so the second does
-and-right : (a b : Bool) → (a && b) ≡ true → b ≡ true
-and-right true b e = e
-and-right false b e = never cc
-
 -- ---- any resends left out: the hall ends alike, and all other calls answer alike
 
 -- what Thinned says, from any hall
@@ -67,5 +63,5 @@ left-out h (b ∷ m) (c ∷ cs) s =
     let i : Left (step h c .hall) (leave m (signatures (step h c .hall .log .records)) cs) cs = left-out (step h c .hall) m cs (sane-step h c s) in
     rw (grow-step h c s)
     (cases (b && isResend (mark (signatures (h .log .records)) c))
-    (λ t. let q : step h c .hall ≡ h = resend-stays h c s (and-right b _ t) in rw t (record { hall = cc; answers = cc }))
+    (λ t. let q : step h c .hall ≡ h = resend-stays h c s (both-hold b _ t .1) in rw t (record { hall = cc; answers = cc }))
     (λ f. rw f (record { hall = i .hall; answers = cc })))
