@@ -44,7 +44,7 @@ abbrev pub doubled : List QueueEntry
 doubled = entry 1 r1000 ∷ entry 2 r1000 ∷ entry 3 r1100 ∷ entry 4 r1200 ∷ entry 2 r1000 ∷ []
 
 pub is-copied : Copied guests doubled
-is-copied = more (entry 1 r1000 ∷ []) (entry 3 r1100 ∷ entry 4 r1200 ∷ []) [] (entry 2 r1000) (entry 2 r1000) plain (record { player = refl; rating = refl })
+is-copied = more (entry 1 r1000 ∷ []) (entry 3 r1100 ∷ entry 4 r1200 ∷ []) [] (entry 2 r1000) (entry 2 r1000) plain (record { player = refl; rating = refl; joined = omega arith })
 
 abbrev pub rostered : Roster
 rostered = ofDeviations (1 ∷ 2 ∷ 3 ∷ 4 ∷ []) (r1000 ∷ r1000 ∷ r1100 ∷ r1200 ∷ []) (zero ∷ zero ∷ zero ∷ zero ∷ [])

@@ -1,10 +1,11 @@
--- Document 02, 2.1, greedy: with later copies put in, every match stays the same.
-use Prim.Native.Nat.{ℕ, zero, suc}
+-- Document 02, 2.1 and 2.2, greedy: with later copies put in that joined no earlier, every match stays the same.
+use Prim.Native.Nat.{ℕ, zero, suc, _≤_}
 use mathlib.Core.Path.{_≡_, refl, sym, ap, _∙_, subst}
 use mathlib.Core.Bool.{true, false, not}
 use mathlib.Core.List.{List, [], _∷_, _++_, foldl, append-assoc}
 use mathlib.Core.Option.{Option, none, some}
-use lib.Ieee.{Float, lt}
+use native.Mathlib.Omega.{arith}
+use lib.Ieee.{Float, inf, lt, eq}
 use Rattle.base.specs.Lists.{keep, member, Within, All}
 use Rattle.base.proofs.Cases.{cases}
 use Rattle.base.proofs.Loops.{fold-append, keep-append}
@@ -14,37 +15,67 @@ use Rattle.queue.specs.Queue.{isOfAny, withoutAll}
 use Rattle.roster.specs.Roster.{Roster}
 use Rattle.seating.specs.declared.TeamComposition.{TeamComposition}
 use Rattle.search.specs.Turns.{seatsLeft}
-use Rattle.search.specs.Greedy.{Filling, Search, distance, reach, closer, nearest, opened, picked, ifSome, filled, begun, anchored, greedyMatches}
-use Rattle.search.proofs.Picks.{nearest-is, nearest-none}
-use Rattle.search.proofs.Seating.{all-middle, member-within, within-trans}
+use Rattle.search.specs.Greedy.{Filling, Search, distance, goesBefore, closer, nearest, opened, picked, ifSome, filled, begun, anchored, greedyMatches}
+use Rattle.search.specs.LongerWait.{Picked}
 use Rattle.search.specs.Copies.{Copy, Copied, plain, more}
+use Rattle.search.proofs.Ties.{after-far, after-tied, after-both}
+use Rattle.search.proofs.Picks.{nearest-picked}
+use Rattle.search.proofs.Seating.{all-so, all-middle, member-within, within-trans}
 
 -- ---- a pick
 
--- no unused entry is nearer than the nearest
-reached : (reference : Float) (used : List ℕ) (queue : List QueueEntry) → All (λ x. lt (distance reference (x .rating)) (reach reference (nearest reference used queue)) ≡ false) (withoutAll used queue)
-reached reference used queue = go (nearest reference used queue) refl
-  where
-    go : (o : Option QueueEntry) → nearest reference used queue ≡ o → All (λ x. lt (distance reference (x .rating)) (reach reference o) ≡ false) (withoutAll used queue)
-    go none h = nearest-none reference used queue h
-    go (some e) h = nearest-is reference used queue e h .smallest
+-- what holds of all, and what else does, both hold of all
+all-both : {A : Type 0} (P Q : A → Type 0) (xs : List A) → All P xs → All Q xs → All (λ x. P x × Q x) xs
+all-both P Q [] a b = tt
+all-both P Q (x ∷ xs) a b = ((a .0, b .0), all-both P Q xs (a .1) (b .1))
+
+module _ (reference : Float) where
+  abbrev far : QueueEntry → Float
+  far x = distance reference (x .rating)
+
+  -- x does not go before the nearest so far
+  abbrev Behind : Option QueueEntry → QueueEntry → Type 0
+  Behind none x = lt (far x) (inf false) ≡ false
+  Behind (some near) x = goesBefore (far x) (x .joined) (far near) (near .joined) ≡ false
+
+  -- so the nearest stays
+  behind-stays : (o : Option QueueEntry) (x : QueueEntry) → Behind o x → closer reference o x ≡ o
+  unfolding closer
+  behind-stays none x h = rw h
+  behind-stays (some near) x h = rw h
+
+  -- no entry goes before the one that is picked
+  picked-behind : (es : List QueueEntry) (o : Option QueueEntry) → Picked reference es o → All (Behind o) es
+  picked-behind es none p = p
+  picked-behind es (some near) p =
+      all-so (λ x. (lt (far x) (far near) ≡ false) × (eq (far x) (far near) ≡ true → near .joined ≤ x .joined)) (Behind (some near))
+      (λ x k. after-both (far x) (x .joined) (far near) (near .joined) (k .0) (k .1)) es (all-both _ _ es (p .smallest) (p .longest))
+
+  -- where an entry doesn't, its copy doesn't: it is as far, and joined no earlier
+  copy-behind : (o : Option QueueEntry) (e c : QueueEntry) → Copy e c → Behind o e → Behind o c
+  copy-behind none e c copy h = rw (copy .rating) h
+  copy-behind (some near) e c copy h =
+      rw (copy .rating)
+      (after-both (far e) (c .joined) (far near) (near .joined) (after-far (far e) (e .joined) (far near) (near .joined) h)
+      (λ t. omega (arith, copy .joined, after-tied (far e) (e .joined) (far near) (near .joined) h t)))
 
 module _ (reference : Float) (used : List ℕ) (before between behind : List QueueEntry) (e c : QueueEntry) (copy : Copy e c) where
-  -- those in front of the copy
+  -- those in front of the copy, and their pick
   abbrev front : List QueueEntry
   front = before ++ (e ∷ between)
 
+  abbrev best : Option QueueEntry
+  best = nearest reference used front
+
   -- a copy never takes the place of the nearest before it: e was seen
-  copy-behind : member (c .player) used ≡ false → closer reference (nearest reference used front) c ≡ nearest reference used front
-  unfolding closer keep
-  copy-behind f =
+  copy-left : member (c .player) used ≡ false → closer reference best c ≡ best
+  unfolding keep
+  copy-left f =
       let g : member (e .player) used ≡ false = rw (← copy .player) f in
       let k : withoutAll used front ≡ withoutAll used before ++ (e ∷ withoutAll used between) =
       keep-append (λ x. not (isOfAny used x)) before (e ∷ between) ∙ rw g refl in
-      let a = subst (All (λ x. lt (distance reference (x .rating)) (reach reference (nearest reference used front)) ≡ false)) k (reached reference used front) in
-      let m = all-middle (λ x. lt (distance reference (x .rating)) (reach reference (nearest reference used front)) ≡ false) (withoutAll used before) e (withoutAll used between) a in
-      let l : lt (distance reference (c .rating)) (reach reference (nearest reference used front)) ≡ false = rw (copy .rating) m in
-      rw l
+      let a = subst (All (Behind reference best)) k (picked-behind reference (withoutAll used front) best (nearest-picked reference used front)) in
+      behind-stays reference best c (copy-behind reference best e c copy (all-middle (Behind reference best) (withoutAll used before) e (withoutAll used between) a))
 
   -- so the nearest of all is the same
   copy-nearest-front : nearest reference used (front ++ (c ∷ behind)) ≡ nearest reference used (front ++ behind)
@@ -56,7 +87,7 @@ module _ (reference : Float) (used : List ℕ) (before between behind : List Que
         fold-append (closer reference) none (withoutAll used front) (withoutAll used (c ∷ behind)),
         fold-append (closer reference) none (withoutAll used front) (withoutAll used behind),
       )
-      (cases (member (c .player) used) (λ t. rw t) (λ f. rw (f, copy-behind f)))
+      (cases (member (c .player) used) (λ t. rw t) (λ f. rw (f, copy-left f)))
 
 -- ---- the anchors before
 

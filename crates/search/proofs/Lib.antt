@@ -1,4 +1,6 @@
+pub mod Ties
 pub mod Laws
+pub mod Rising
 pub mod Free
 pub mod Plain
 pub mod Seating
@@ -18,6 +20,8 @@ pub mod Marks
 pub mod Scores
 pub mod Standings
 pub mod Drawn
+pub mod InOrder
+pub mod LongerWait
 pub mod Copies
 pub mod BeamCopies
 pub mod OtherCopies

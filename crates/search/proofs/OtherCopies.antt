@@ -1,5 +1,5 @@
--- Document 02, 2.1: the law of greedy's copies reaches no further. A copy that stands before its entry, and one with another rating,
--- can each take a seat: two queues by computation, one against one.
+-- Document 02, 2.1 and 2.2: the law of greedy's copies reaches no further. A copy that stands before its entry, one with another
+-- rating, and one that joined earlier can each take a seat: queues by computation, one against one.
 use Prim.Native.Nat.{ℕ}
 use mathlib.Core.Path.{_≡_, refl}
 use mathlib.Core.List.{List, [], _∷_}
@@ -11,7 +11,7 @@ use Rattle.roster.specs.Roster.{ofRatings, observe}
 use Rattle.matchmaker.specs.Quality.{MatchState, averageFrom}
 use Rattle.seating.specs.Seating.{lineup}
 use Rattle.search.specs.Turns.{grown}
-use Rattle.search.specs.Greedy.{closer, filled, anchored, greedyMatches}
+use Rattle.search.specs.Greedy.{goesBefore, closer, filled, anchored, greedyMatches}
 
 -- 990.0, 1000.0 and 1010.0
 abbrev r990 : Float
@@ -23,8 +23,12 @@ r1000 = ofBits binary64 0x408f_4000_0000_0000
 abbrev r1010 : Float
 r1010 = ofBits binary64 0x408f_9000_0000_0000
 
+-- an entry that joined at a time, and one that joined at 5, as all do but one
+abbrev joining : ℕ → ℕ → Float → QueueEntry
+joining joined player rating = record { player = player; joined = joined; rating = rating; party = 0; role = 0 }
+
 abbrev entry : ℕ → Float → QueueEntry
-entry player rating = record { player = player; joined = 0; rating = rating; party = 0; role = 0 }
+entry = joining 5
 
 -- one against one; nobody needs a row
 abbrev paired : List QueueEntry → List MatchState
@@ -42,7 +46,12 @@ ahead = entry 1 r1000 ∷ entry 3 r990 ∷ entry 2 r1010 ∷ entry 3 r990 ∷ []
 abbrev pub rated : List QueueEntry
 rated = entry 1 r1000 ∷ entry 2 r1010 ∷ entry 3 r990 ∷ entry 3 r1000 ∷ []
 
--- guest 2 sits with guest 1, and in both other queues guest 3 does
-pub greedy-parts : (paired guests ≡ lineup (1 ∷ []) (2 ∷ []) ∷ []) × (paired ahead ≡ lineup (1 ∷ []) (3 ∷ []) ∷ []) × (paired rated ≡ lineup (1 ∷ []) (3 ∷ []) ∷ [])
-unfolding absOf seek keep observe averageFrom grown closer filled anchored add sub div lt eq ne isNan ofInt ofBits round
-greedy-parts = (refl, refl, refl)
+-- guest 3 once more behind it, who joined before all others
+abbrev pub earlier : List QueueEntry
+earlier = entry 1 r1000 ∷ entry 2 r1010 ∷ entry 3 r990 ∷ joining 4 3 r990 ∷ []
+
+-- guest 2 sits with guest 1, and in the other queues guest 3 does
+pub greedy-parts : (paired guests ≡ lineup (1 ∷ []) (2 ∷ []) ∷ []) × (paired ahead ≡ lineup (1 ∷ []) (3 ∷ []) ∷ [])
+    × (paired rated ≡ lineup (1 ∷ []) (3 ∷ []) ∷ []) × (paired earlier ≡ lineup (1 ∷ []) (3 ∷ []) ∷ [])
+unfolding absOf seek keep observe averageFrom grown goesBefore closer filled anchored add sub div lt eq ne isNan ofInt ofBits round
+greedy-parts = (refl, refl, refl, refl)

@@ -1,6 +1,7 @@
 pub mod Turns
 pub mod Seats
 pub mod Greedy
+pub mod LongerWait
 pub mod Copies
 pub mod Beam
 pub mod OldCounter

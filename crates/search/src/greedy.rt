@@ -10,8 +10,9 @@ ghost use Rattle.base.specs.Refusals.{checkedOf};
 ghost use Rattle.queue.specs.Queue.{queueOf};
 ghost use Rattle.roster.specs.Roster.{ofRatings, observedOf};
 ghost use Rattle.seating.specs.Seating.{Sheets, matchesOf, gathered, leaving};
-ghost use Rattle.search.specs.Greedy.{rosterRating, greedyMatches, greedyCheck, greedyRule};
-ghost use Rattle.search.specs.Steps.{columns, magnitudeOf, nearestFree, struck, marked, freeOf, fillOf, opening, picking, filling, running, unmarked};
+ghost use Rattle.search.specs.Greedy.{goesBefore, rosterRating, greedyMatches, greedyCheck, greedyRule};
+ghost use Rattle.search.specs.LongerWait.{neverFall};
+ghost use Rattle.search.specs.Steps.{columns, magnitudeOf, nearestFree, nearestAlone, struck, marked, freeOf, fillOf, opening, picking, filling, running, unmarked};
 ghost use Rattle.search.specs.Turns.{seatsLeft};
 use base::Checked;
 use base::Refusal;
@@ -30,6 +31,23 @@ pub struct Filling {
 }
 
 // ---- what is read once
+
+// The joined time at each place.
+fn joined_of(queue: Queue) -> [u64; 64]
+    requires { ⌜ queue .len ≤ 64 ⌝ }
+    ensures { λ r. ⌜ take (queue .len) r ≡ map (λ e. e .joined) (queueOf queue .entries) ⌝ }
+{
+    let entries = queue.entries;
+    let n = queue.len;
+    let mut out = [0; 64];
+    let mut i: usize = 0;
+    while i < n {
+        let entry = entries[i];
+        out[i] = entry.joined;
+        i += 1;
+    }
+    out
+}
 
 // The entry's rating at each place.
 fn ratings_of(queue: Queue) -> [f64; 64]
@@ -86,10 +104,41 @@ fn magnitude(x: f64) -> f64
     x
 }
 
-// The place of the nearest among the first n who are free, or n. Where somebody is used the rating is NaN, so it is never below.
-fn pick_nearest(reference: f64, free: &[f64; 64], n: usize) -> usize
+// Is the distance smaller, or equal and the joined time earlier?
+fn goes_before(distance: f64, joined: u64, near: f64, since: u64) -> bool
+    ensures { λ r. ⌜ r ≡ goesBefore distance joined near since ⌝ }
+{
+    if distance < near {
+        return true;
+    }
+    if distance == near {
+        return joined < since;
+    }
+    false
+}
+
+// Do the joined times of the first n never fall?
+fn never_falls(joined: &[u64; 64], n: usize) -> bool
     requires { ⌜ n ≤ 64 ⌝ }
-    ensures { λ r. ⌜ r ≡ nearestFree reference (now (free .entry)) n ⌝ }
+    requires { ⌜ length (now joined) ≡ 64 ⌝ }
+    ensures { λ r. ⌜ r ≡ neverFall (take n (now (joined .entry))) ⌝ }
+{
+    let mut last: u64 = 0;
+    let mut i: usize = 0;
+    while i < n {
+        if joined[i] < last {
+            return false;
+        }
+        last = joined[i];
+        i += 1;
+    }
+    true
+}
+
+// The place of the nearest among the first n who are free, the earlier of equals, or n.
+fn pick_first(reference: f64, free: &[f64; 64], n: usize) -> usize
+    requires { ⌜ n ≤ 64 ⌝ }
+    ensures { λ r. ⌜ r ≡ nearestAlone reference (now (free .entry)) n ⌝ }
 {
     let mut best = n;
     let mut smallest = 1.0 / 0.0;
@@ -105,6 +154,55 @@ fn pick_nearest(reference: f64, free: &[f64; 64], n: usize) -> usize
         }
     }
     best
+}
+
+// The place of the nearest among the first n who are free, or n; of equal distances the earlier joined time, then the earlier
+// place. Where somebody is used the rating is NaN, so it is never below and never equal; nobody joined before 0, so nothing ties
+// with infinity. The joined time is read only behind the first test: so that test stays a branch, seldom taken, and the loop as fast
+// as without ties.
+fn pick_tied(reference: f64, joined: &[u64; 64], free: &[f64; 64], n: usize) -> usize
+    requires { ⌜ n ≤ 64 ⌝ }
+    ensures { λ r. ⌜ r ≡ nearestFree reference (now (joined .entry)) (now (free .entry)) n ⌝ }
+{
+    let mut best = n;
+    let mut smallest = 1.0 / 0.0;
+    let mut since: u64 = 0;
+    let mut i: usize = 0;
+    while i < n {
+        let distance = magnitude(reference - free[i]);
+        if distance <= smallest {
+            if goes_before(distance, joined[i], smallest, since) {
+                best = i;
+                smallest = distance;
+                since = joined[i];
+                i += 1;
+            } else {
+                i += 1;
+            }
+        } else {
+            i += 1;
+        }
+    }
+    best
+}
+
+// The same; where the joined times never fall, ties need no look.
+fn pick_nearest(
+    ordered: bool,
+    reference: f64,
+    joined: &[u64; 64],
+    free: &[f64; 64],
+    n: usize,
+) -> usize
+    requires { ⌜ n ≤ 64 ⌝ }
+    requires { ⌜ ordered ≡ neverFall (take n (now joined)) ⌝ }
+    requires { ⌜ length (now joined) ≡ 64 ⌝ }
+    ensures { λ r. ⌜ r ≡ nearestFree reference (now (joined .entry)) (now (free .entry)) n ⌝ }
+{
+    if ordered {
+        return pick_first(reference, free, n);
+    }
+    pick_tied(reference, joined, free, n)
 }
 
 // Every place of the player is used, and free no longer.
@@ -141,7 +239,7 @@ fn open(
     requires { ⌜ length (now players) ≡ 64 ⌝ }
     requires { ⌜ length (now used) ≡ 64 ⌝ }
     requires { ⌜ length (now free) ≡ 64 ⌝ }
-    ensures { λ r. ⌜ fillOf (now (used .exit)) r ≡ opening (columns (now (players .entry)) (now (ratings .entry)) (now (rostered .entry))) (now (used .entry)) at ⌝ }
+    ensures { λ r. ⌜ fillOf (now (used .exit)) r ≡ opening (now (players .entry)) (now (ratings .entry)) (now (rostered .entry)) (now (used .entry)) at ⌝ }
     ensures { λ _. ⌜ now (free .exit) ≡ struck nan (getD (now (players .entry)) at 0) (now (players .entry)) (now (free .entry)) ⌝ }
 {
     let player = players[at];
@@ -194,6 +292,8 @@ fn pick(
 fn fill(
     sizes: TeamComposition,
     players: &[u64; 64],
+    joined: &[u64; 64],
+    ordered: bool,
     ratings: &[f64; 64],
     rostered: &[f64; 64],
     n: usize,
@@ -206,14 +306,16 @@ fn fill(
     requires { ⌜ length (now ratings) ≡ 64 ⌝ }
     requires { ⌜ length (now used) ≡ 64 ⌝ }
     requires { ⌜ now free ≡ freeOf (now ratings) (now used) ⌝ }
-    ensures { λ r. ⌜ fillOf (now (used .exit)) r ≡ filling sizes (columns (now (players .entry)) (now (ratings .entry)) (now (rostered .entry))) n (seatsLeft sizes) (opening (columns (now (players .entry)) (now (ratings .entry)) (now (rostered .entry))) (now (used .entry)) at) ⌝ }
+    requires { ⌜ ordered ≡ neverFall (take n (now joined)) ⌝ }
+    requires { ⌜ length (now joined) ≡ 64 ⌝ }
+    ensures { λ r. ⌜ fillOf (now (used .exit)) r ≡ filling sizes (columns (now (players .entry)) (now (joined .entry)) (now (ratings .entry)) (now (rostered .entry))) n (seatsLeft sizes) (opening (now (players .entry)) (now (ratings .entry)) (now (rostered .entry)) (now (used .entry)) at) ⌝ }
     ensures { λ _. ⌜ length (now (used .exit)) ≡ 64 ⌝ }
     ensures { λ _. ⌜ now (free .exit) ≡ freeOf (now (ratings .entry)) (now (used .exit)) ⌝ }
 {
     let mut out = open(players, ratings, rostered, used, free, at);
     let mut left = crate::seats_left(sizes);
     while 0 < left {
-        let next = pick_nearest(out.reference, free, n);
+        let next = pick_nearest(ordered, out.reference, joined, free, n);
         if n <= next {
             return out;
         }
@@ -229,6 +331,7 @@ fn fill(
 fn match_all(
     sizes: TeamComposition,
     players: &[u64; 64],
+    joined: &[u64; 64],
     ratings: &[f64; 64],
     rostered: &[f64; 64],
     n: usize,
@@ -236,8 +339,10 @@ fn match_all(
     requires { ⌜ (sizes .a ≤ 8) × ((sizes .b ≤ 8) × (n ≤ 64)) ⌝ }
     requires { ⌜ length (now players) ≡ 64 ⌝ }
     requires { ⌜ length (now ratings) ≡ 64 ⌝ }
-    ensures { λ r. ⌜ matchesOf r ≡ gathered (running sizes (columns (now (players .entry)) (now (ratings .entry)) (now (rostered .entry))) n unmarked .matches) ⌝ }
+    requires { ⌜ length (now joined) ≡ 64 ⌝ }
+    ensures { λ r. ⌜ matchesOf r ≡ gathered (running sizes (columns (now (players .entry)) (now (joined .entry)) (now (ratings .entry)) (now (rostered .entry))) n unmarked .matches) ⌝ }
 {
+    let ordered = never_falls(joined, n);
     let mut used = [false; 64];
     let mut free = *ratings;
     let mut items = [crate::opened(0); 64];
@@ -250,6 +355,8 @@ fn match_all(
             let filled = fill(
                 sizes,
                 players,
+                joined,
+                ordered,
                 ratings,
                 rostered,
                 n,
@@ -280,9 +387,10 @@ pub(crate) fn matches(sizes: TeamComposition, queue: Queue, ids: &[u64], ratings
 {
     let n = queue.len;
     let players = crate::players_of(queue);
+    let joined = joined_of(queue);
     let entered = ratings_of(queue);
     let rostered = rostered_of(&players, n, ids, ratings);
-    match_all(sizes, &players, &entered, &rostered, n)
+    match_all(sizes, &players, &joined, &entered, &rostered, n)
 }
 
 // Refusals 1, 2, 3 and 4 of what a search is given.

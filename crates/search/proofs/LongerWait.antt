@@ -1,0 +1,15 @@
+-- Document 02, 2.2: what is established of any queue's picks.
+use mathlib.Core.List.{List}
+use Rattle.queue.specs.declared.QueueEntry.{QueueEntry}
+use Rattle.queue.specs.Queue.{withoutAll}
+use Rattle.search.specs.LongerWait.{LongerWait}
+use Rattle.search.proofs.Picks.{nearest-picked, foremost-one}
+use Rattle.search.proofs.InOrder.{in-order}
+
+pub longer-wait : (queue : List QueueEntry) → LongerWait queue
+longer-wait queue =
+    record {
+      pick = λ reference used. nearest-picked reference used queue;
+      only = λ reference used. foremost-one reference (withoutAll used queue);
+      in-order = in-order queue;
+    }
