@@ -1,10 +1,10 @@
--- Document 01, "At the table": the starred lines, as one theorem that ranges over a list of them.
+-- Document 01, "At the table": the starred lines, as one theorem that ranges over a list of them; and lines of document 02.
 use Prim.Native.Nat.{ℕ, _-_}
 use mathlib.Core.Path.{_≡_, refl}
 use mathlib.Core.Bool.{Bool, true, false}
 use mathlib.Core.List.{List, [], _∷_, _++_, map}
 use mathlib.Core.Option.{some}
-use lib.Ieee.{Float, nan, binary64, add, sub, mul, div, lt, le, eq, ne, isNan, round, ofInt, ofBits}
+use lib.Ieee.{Float, nan, inf, binary64, add, sub, mul, div, lt, le, eq, ne, isNan, round, ofInt, ofBits}
 use lib.ListN.{length, take, replicate}
 use Rattle.base.specs.Floats.{zero, one, absOf, minOf}
 use Rattle.base.specs.Lists.{All, seek, keep, removeFirst, distinct}
@@ -34,7 +34,7 @@ use Rattle.hall.specs.Rounds as Rounds
 use Rattle.hall.specs.Calls as Calls
 use Rattle.hall.specs.Calls.{Call, keyed, Answer, answered, handed, step, after, answers, markOf, leave, thin}
 use Rattle.search.specs.Beam.{expansions, stepped, steps, beamOf, beaming, beamMatches}
-use Rattle.search.specs.Greedy.{closer, nearest, filled, anchored, greedyMatches}
+use Rattle.search.specs.Greedy.{goesBefore, closer, nearest, filled, anchored, greedyMatches}
 
 -- 100.0, 0.75, and the ratings of the table's guests and of the entries about 1000
 abbrev hundred : Float
@@ -58,9 +58,12 @@ r1090 = ofBits binary64 0x4091_0800_0000_0000
 abbrev r990 : Float
 r990 = ofBits binary64 0x408e_f000_0000_0000
 
--- an entry of a guest with a rating, who waits since 0 with no party and no role
+-- an entry of a guest with a rating, who joined at a time, or at 0, with no party and no role
+abbrev joining : ℕ → ℕ → Float → QueueEntry
+joining joined player rating = record { player = player; joined = joined; rating = rating; party = 0; role = 0 }
+
 abbrev entry : ℕ → Float → QueueEntry
-entry player rating = record { player = player; joined = 0; rating = rating; party = 0; role = 0 }
+entry = joining 0
 
 -- "Guests 1 to 4, ratings 1000, 1280, 1010, 1090, all rostered."
 abbrev guests : List QueueEntry
@@ -166,7 +169,8 @@ Holds (pick reference queue e) = nearest reference [] queue ≡ some e
 -- 0.75." "Greedy 0+1: none." "Beam width 0: 1+1 none; 1+0 one match a guest." "Exhaustive 2+2: A {1, 2}, B {3, 4} only."
 -- "Exhaustive 1+1 of guests 1, 2, 3: (1,2), (1,3), (2,3)." "Full round on those, wait objective only: (2,3), tried 3."
 -- "Booking key 7 guest 1 accepted; again: accepted, one waiting; key 7 guest 2: 7; key 8 guest 1: 9."
--- "Reference 1000, entries 1010 then 990: 1010." The beam of width 4 is no line of the paper, but tells wrong turns apart. Nor is
+-- "Reference 1000, entries 1010 then 990: 1010."; document 02, 2.2: "the case of 1010 then 990 has equal" joined times. Where the one of
+-- 990 joined earlier it goes first; a nearer one goes first whenever it joined; a rating of NaN or infinity never. The beam of width 4 is no line of the paper, but tells wrong turns apart. Nor is
 -- the story: a phone resends two bookings after a withdrawal and a round, among guests who are rated alike. Each gets the answer that
 -- it got, nobody waits for it, and no table is played one short; without the resends all else is the same.
 abbrev pub lines : List Line
@@ -195,8 +199,11 @@ lines =
     (accepted ∷ accepted ∷ accepted ∷ accepted ∷ paired 1 2 ∷ accepted ∷ accepted ∷ accepted ∷ accepted ∷ paired 1 4 ∷ [])
     (hallWith [] (noted 1 0 1 ∷ noted 2 0 2 ∷ noted 3 0 3 ∷ noted 4 1 3 ∷ noted 5 0 1 ∷ noted 6 0 4 ∷ []))
     ∷ pick thousand (entry 1 r1010 ∷ entry 2 r990 ∷ []) (entry 1 r1010)
+    ∷ pick thousand (joining 5 1 r1010 ∷ joining 3 2 r990 ∷ []) (joining 3 2 r990)
+    ∷ pick thousand (joining 3 1 r1010 ∷ joining 5 2 thousand ∷ []) (joining 5 2 thousand)
+    ∷ pick thousand (joining 0 1 nan ∷ joining 0 2 (inf false) ∷ joining 5 3 r990 ∷ []) (joining 5 3 r990)
     ∷ []
 
 pub at-the-table : All Holds lines
-unfolding qualityAt absOf minOf dominatesOf anyBelow seek keep observe observations averageFrom closer grown filled anchored insertBy expansions stepped steps beamOf seats secondsOf longer scoreFrom choices ways step judge deal answerIn markOf removeFirst distinct weighted latencyAt mul add div sub lt le eq ne isNan ofInt ofBits round
-at-the-table = (refl, (refl, (refl, (refl, (refl, (refl, ((refl, refl), ((refl, refl), (refl, (refl, (refl, (refl, (refl, (refl, ((refl, refl), ((refl, refl), ((refl, refl), ((refl, refl), ((refl, (refl, (refl, (refl, refl)))), (refl, tt))))))))))))))))))))
+unfolding qualityAt absOf minOf dominatesOf anyBelow seek keep observe observations averageFrom goesBefore closer grown filled anchored insertBy expansions stepped steps beamOf seats secondsOf longer scoreFrom choices ways step judge deal answerIn markOf removeFirst distinct weighted latencyAt mul add div sub lt le eq ne isNan ofInt ofBits round
+at-the-table = (refl, (refl, (refl, (refl, (refl, (refl, ((refl, refl), ((refl, refl), (refl, (refl, (refl, (refl, (refl, (refl, ((refl, refl), ((refl, refl), ((refl, refl), ((refl, refl), ((refl, (refl, (refl, (refl, refl)))), (refl, (refl, (refl, (refl, tt)))))))))))))))))))))))

@@ -25,7 +25,8 @@ pub fn all() {
     exhaustive(3, 1, 1);
     full_round();
     differences();
-    reference();
+    reference(b"", 0);
+    reference(b" who joined earlier", 5);
     greedy(0, 1);
     beam(0, 1, 1);
     beam(0, 1, 0);
@@ -149,18 +150,22 @@ fn exhaustive(n: usize, a: usize, b: usize) {
     text::say(b"\n");
 }
 
-// Reference 1000, entries 1010 then 990.
-fn reference() {
+// Reference 1000, entries 1010 then 990, of which the first joined at this time and the other at 0.
+fn reference(words: &[u8], joined: u64) {
     let ids = [1u64, 2, 3];
     let ratings = [1000.0f64, 1010.0, 990.0];
     let mut players = [0u64; 64];
     let mut qualities = [0.0f64; 64];
     let sizes = TeamComposition { a: 1, b: 1 };
     let mut queue = guests(3);
-    queue.entries[1] = entry(2, 1010.0);
+    let mut second = entry(2, 1010.0);
+    second.joined = joined;
+    queue.entries[1] = second;
     queue.entries[2] = entry(3, 990.0);
     let given = GreedySearch::search(queue, sizes, &ids, &ratings, &mut players, &mut qualities);
-    text::say(b"reference 1000, guest 2 of 1010 before guest 3 of 990: ");
+    text::say(b"reference 1000, guest 2 of 1010 before guest 3 of 990");
+    text::say(words);
+    text::say(b": ");
     text::handed(calls::formed(given, 0), &players, 1, 1);
     text::say(b"\n");
 }
