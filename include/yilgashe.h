@@ -453,8 +453,9 @@ typedef struct yilgashe_formed {
     uint8_t refusal;
 } yilgashe_formed;
 
-/* In queue order, each guest draws the nearest ratings to their table; the qualities are those of the matches. A guest may stand in
-   the queue twice, with other ratings too: nobody is seated twice, and later copies of an entry change no match. */
+/* In queue order, each guest draws the nearest ratings to their table; of equally near ones the earlier joined time, then the earlier
+   place. The qualities are those of the matches. A guest may stand in the queue twice, with other ratings too: nobody is seated twice,
+   and later copies of an entry that joined no earlier change no match. */
 yilgashe_formed yilgashe_search_greedy(yilgashe_queue queue, yilgashe_team_composition sizes, const uint64_t *ids, size_t ids_len,
                                        const double *ratings, size_t ratings_len, uint64_t *players, size_t players_len,
                                        double *qualities, size_t qualities_len);
@@ -548,7 +549,7 @@ yilgashe_hall yilgashe_hall_empty(void);
 yilgashe_keyed yilgashe_hall_book(yilgashe_hall hall, uint64_t key, yilgashe_booking booking);
 yilgashe_keyed yilgashe_hall_withdraw(yilgashe_hall hall, uint64_t key, uint64_t player);
 
-/* The greedy search over those who wait; the seated leave. */
+/* The greedy search over those who wait: of equally near guests the longer wait goes first. The seated leave. */
 yilgashe_rounded yilgashe_hall_greedy_round(yilgashe_hall hall, yilgashe_team_composition sizes, uint64_t clock,
                                             const uint64_t *ids, size_t ids_len, const double *ratings, size_t ratings_len,
                                             uint64_t *players, size_t players_len, double *qualities, size_t qualities_len);

@@ -443,6 +443,24 @@ static bool seated(uint64_t a, uint64_t b, uint64_t c, uint64_t end)
     return players[0] == a && players[1] == b && players[2] == c && players[3] == end;
 }
 
+/* Guests 2 and 3 are as near to guest 1: the seat goes to the earlier joined time, then to the earlier place. */
+static void longer_wait(void)
+{
+    const double ratings[3] = {1000.0, 1010.0, 990.0};
+    uint64_t joined, n;
+    for (joined = 4; joined <= 6; joined++) {
+        yilgashe_queue queue = yilgashe_queue_empty();
+        yilgashe_formed told;
+        for (n = 0; n < 3; n++) {
+            yilgashe_queue_entry e = {n + 1, n < 2 ? 5 : joined, ratings[n], 0, 0};
+            queue = yilgashe_queue_enqueue(queue, e).queue;
+        }
+        fresh_sheets();
+        told = yilgashe_search_greedy(queue, teams_of(1, 1), ids4, 3, ratings, 3, players, SHEET, qualities, SHEET);
+        CHECK(told.refusal == YILGASHE_ACCEPTED && told.count == 1 && players[0] == 1 && players[1] == (joined < 5 ? 3 : 2));
+    }
+}
+
 /* Teams of 2 and 1 are not teams of 1 and 2; the place behind the sheet is never touched. */
 static void searches(void)
 {
@@ -652,6 +670,7 @@ int main(void)
     constraints();
     single_constraints();
     selections();
+    longer_wait();
     searches();
     choices();
     bookings();

@@ -63,7 +63,7 @@ impl Hall {
         self.keep(sys::hall_withdraw(*self.0, key, player))
     }
 
-    /// The greedy search over those who wait; the seated leave.
+    /// The greedy search over those who wait: of equally near guests the longer wait goes first. The seated leave.
     pub fn greedy_round(
         &mut self,
         sizes: TeamComposition,

@@ -27,8 +27,9 @@ fn ways(n: usize, k: usize) -> Option<usize> {
 }
 
 impl Queue {
-    /// In queue order, each guest draws the nearest ratings to the table. A guest may stand in the queue twice, with other ratings too:
-    /// nobody is seated twice, and later copies of an entry change no match.
+    /// In queue order, each guest draws the nearest ratings to the table; of equally near ones the earlier joined time, then the earlier
+    /// place. A guest may stand in the queue twice, with other ratings too: nobody is seated twice, and later copies of an entry that
+    /// joined no earlier change no match.
     pub fn greedy(&self, sizes: TeamComposition, roster: &Roster) -> Result<Matches, Refusal> {
         let mut matches = Matches::of_64(sizes);
         let (players, qualities) = matches.lent();

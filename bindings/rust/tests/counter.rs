@@ -313,3 +313,44 @@ fn a_queue_from_the_old_counter() {
     seated.sort_unstable();
     assert_eq!(seated, [1, 2, 3, 4]);
 }
+
+/// Guests 1, 2 and 3; the last two are as near to the first, and joined at these times.
+fn tied(second: u64, third: u64) -> [QueueEntry; 3] {
+    [(1, 0, 1000.0), (2, second, 1010.0), (3, third, 990.0)].map(|(player, joined, rating)| {
+        QueueEntry {
+            joined,
+            rating,
+            ..entry(player)
+        }
+    })
+}
+
+/// The bare search goes by the joined time, then by the place, and the round as the search.
+#[test]
+fn equal_distance_goes_to_the_longer_wait() {
+    let roster = rated(&[1000.0, 1010.0, 990.0]);
+    for (second, third, picked) in [(5, 5, 2), (5, 6, 2), (5, 4, 3)] {
+        let guests = tied(second, third);
+        let queue: Queue = guests.into_iter().collect();
+        let searched = queue.greedy(PAIRS, &roster).unwrap();
+        assert_eq!(searched.players(), [1, picked]);
+        let mut hall = Hall::new();
+        for guest in &guests {
+            hall.book(guest.player, Booking::of(guest)).unwrap();
+        }
+        assert_eq!(hall.greedy_round(PAIRS, 9, &roster), Ok(searched));
+    }
+}
+
+/// A copy that joined earlier than the entry that it copies is no copy: it may take a seat.
+#[test]
+fn an_earlier_copy_may_take_a_seat() {
+    let roster = rated(&[1000.0, 1010.0, 990.0]);
+    let [one, two, three] = tied(5, 5);
+    for (joined, picked) in [(5, 2), (6, 2), (4, 3)] {
+        let copy = QueueEntry { joined, ..three };
+        let queue: Queue = [one, two, three, copy].into_iter().collect();
+        let searched = queue.greedy(PAIRS, &roster).unwrap();
+        assert_eq!(searched.players(), [1, picked]);
+    }
+}
