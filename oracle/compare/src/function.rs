@@ -12,8 +12,6 @@ use std::sync::Once;
 pub trait Function {
     /// Its name in the report.
     const NAME: &'static str;
-    /// False where only the model can tell right from wrong.
-    const HAS_RUST: bool = true;
     /// True where it takes no input: one case says it all.
     const ONE_CASE: bool = false;
 
@@ -26,9 +24,13 @@ pub trait Function {
     fn refusal(case: &Self::Case) -> u8;
     /// What a refused call answers: nothing found, nothing changed.
     fn refused(case: &Self::Case) -> Self::Answer;
-    /// What the unchanged Rust answers; asked only where the model does not refuse.
+    /// False where the Rust has no such rule: there the model alone can tell right from wrong.
+    fn has_rust(_: &Self::Case) -> bool {
+        true
+    }
+    /// What the unchanged Rust answers; asked only where it has the rule and the model does not refuse.
     fn rust(case: &Self::Case) -> Self::Answer;
-    /// What the model answers where the Rust panics; none where only the absence of a refusal is known.
+    /// What the model answers where the Rust has no such rule, or panics; none where only the absence of a refusal is known.
     fn model(_: &Self::Case) -> Option<Self::Answer> {
         None
     }
@@ -161,16 +163,20 @@ fn store<F: Stored>(rng: &mut Rng) -> Option<String> {
 }
 
 fn expected<F: Function>(case: &F::Case) -> (Source, Option<F::Answer>) {
-    match F::refusal(case) {
-        0 => match caught(|| F::rust(case)) {
-            Some(answer) if F::HAS_RUST => (Source::Rust, Some(answer)),
-            Some(answer) => (Source::Model, Some(answer)),
-            None => match F::model(case) {
-                Some(answer) => (Source::Model, Some(answer)),
-                None => (Source::Panic, None),
-            },
-        },
-        number => (Source::Refusal(number), Some(F::refused(case))),
+    let refusal = F::refusal(case);
+    if refusal > 0 {
+        return (Source::Refusal(refusal), Some(F::refused(case)));
+    }
+    let has_rust = F::has_rust(case);
+    let asked = has_rust.then(|| caught(|| F::rust(case)));
+    if let Some(answer) = asked.flatten() {
+        return (Source::Rust, Some(answer));
+    }
+    let model = F::model(case);
+    assert!(has_rust || model.is_some(), "nobody knows: {case:?}");
+    match model {
+        Some(answer) => (Source::Model, Some(answer)),
+        None => (Source::Panic, None),
     }
 }
 
@@ -206,8 +212,8 @@ pub fn caught<T>(run: impl FnOnce() -> T) -> Option<T> {
 mod tests {
     use super::*;
 
-    /// Refuses 3 with 9; its Rust doubles and panics at 5 and 6, where the model knows 6 alone; its library is wrong at 7, 8 and
-    /// 12. No answer may be above 20.
+    /// Refuses 3 with 9. Its Rust doubles, and panics at 5 and 6, where the model knows 6 alone; from 100 on it halves, and the model
+    /// alone is asked. Its library is wrong at 7, 8, 12 and 101. No answer may be above 20, save from 50 on.
     struct Doubling;
 
     thread_local! {
@@ -228,12 +234,15 @@ mod tests {
         fn refused(case: &u64) -> u64 {
             *case
         }
+        fn has_rust(case: &u64) -> bool {
+            *case < 100
+        }
         fn rust(case: &u64) -> u64 {
             assert!(*case != 5 && *case != 6);
-            case * 2
+            if *case < 100 { case * 2 } else { case / 2 }
         }
         fn model(case: &u64) -> Option<u64> {
-            (*case == 6).then_some(12)
+            (*case == 6 || *case >= 100).then_some(case * 2)
         }
         fn library(case: &u64) -> (u8, u64) {
             match case {
@@ -241,12 +250,13 @@ mod tests {
                 7 => (9, 14),
                 8 => (0, 17),
                 12 => (0, 4),
+                101 => (0, 50),
                 _ => (0, case * 2),
             }
         }
         fn keeps(_: &u64, answer: &u64) -> Result<(), String> {
             match *answer {
-                0..=20 => Ok(()),
+                0..=20 | 50.. => Ok(()),
                 _ => Err(format!("{answer} is above 20")),
             }
         }
@@ -323,9 +333,19 @@ mod tests {
         assert_eq!(line(6).as_deref(), Some("63 6 0 c"));
     }
 
+    /// At 101 the library answers as the Rust would.
+    #[test]
+    fn the_model_alone_tells_where_there_is_no_rust() {
+        assert_eq!(verdict(100).source, Source::Model);
+        assert_eq!(verdict(100).difference, None);
+        let wrong = verdict(101).difference.expect("50 is not 202");
+        assert!(wrong.contains("refusal 0, 202") && wrong.contains("refusal 0, 50"));
+    }
+
     #[test]
     fn stored_lines_come_from_rust_and_model() {
         assert_eq!(line(8).as_deref(), Some("63 8 0 10"));
+        assert_eq!(line(100).as_deref(), Some("63 64 0 c8"));
         assert_eq!(line(3).as_deref(), Some("63 3 9 3"));
         assert_eq!(line(5), None);
     }

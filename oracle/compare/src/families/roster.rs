@@ -14,7 +14,6 @@ struct Check;
 
 impl Function for Check {
     const NAME: &'static str = "check";
-    const HAS_RUST: bool = false;
     type Case = Roster;
     type Answer = ();
 
@@ -35,7 +34,17 @@ impl Function for Check {
 
     fn refused(_: &Roster) {}
 
-    fn rust(_: &Roster) {}
+    fn has_rust(_: &Roster) -> bool {
+        false
+    }
+
+    fn rust(_: &Roster) {
+        unreachable!("there is none")
+    }
+
+    fn model(_: &Roster) -> Option<()> {
+        Some(())
+    }
 
     fn library(roster: &Roster) -> (u8, ()) {
         let refusal = library::roster_check(
