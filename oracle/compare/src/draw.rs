@@ -131,6 +131,16 @@ fn plain_time(rng: &mut Rng) -> u64 {
     rng.below(10_800_000_000_000) as u64
 }
 
+/// The same time often, else a little later or up to three hours; past the clock's limit only if it is so itself.
+fn later(rng: &mut Rng, time: u64) -> u64 {
+    let step = match rng.below(4) {
+        0 => rng.between(1, 5) as u64,
+        1 => plain_time(rng),
+        _ => 0,
+    };
+    time.saturating_add(step).min(CLOCK_LIMIT.max(time))
+}
+
 fn joined(rng: &mut Rng, spread: Times) -> u64 {
     match spread {
         Times::Zero => 0,

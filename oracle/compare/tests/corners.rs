@@ -162,6 +162,20 @@ fn greedy_at_the_table() {
     assert_eq!(seats(nearer_first), [(vec![1], vec![2])]);
 }
 
+/// Request 2.2 wants another guest where 990 joined before 1010.
+#[test]
+fn greedy_goes_by_place_whatever_the_joined_times() {
+    let ratings = [1000.0, 1010.0, 990.0];
+    for joined in [[0, 0, 0], [5, 7, 0], [9, 5, 0]] {
+        let mut queue = guests(&ratings);
+        for (entry, joined) in queue.iter_mut().zip(joined) {
+            entry.joined = joined;
+        }
+        let formed = search(&GreedySearch, &queue, (1, 1), [1.0; 4], &world(&ratings));
+        assert_eq!(seats(formed), [(vec![1], vec![2])]);
+    }
+}
+
 #[test]
 fn greedy_without_a_roster() {
     let world = world(&[]);

@@ -922,7 +922,7 @@ mod rules {
     }
 }
 
-/// Lines of searches and generators, their answers computed anew from document 01.
+/// Lines of searches and generators, their answers computed anew from document 01 and request 2.2.
 mod searches {
     use super::{Entry, Reader, choices, lines};
     use compare::same::Same;
@@ -1035,8 +1035,11 @@ mod searches {
                 let distance = |entry: &Entry| (reference - f64::from_bits(entry[2])).abs();
                 let free = queue.iter().filter(|entry| !used.contains(&entry[0]));
                 let near = free.filter(|entry| distance(entry) < f64::INFINITY);
-                // The first of equal ones is the smallest.
-                let pick = near.min_by(|x, y| distance(x).total_cmp(&distance(y)));
+                // Of equal distances the earlier joined time; the first of equal ones is the smallest.
+                let pick = near.min_by(|x, y| {
+                    let distances = distance(x).total_cmp(&distance(y));
+                    distances.then(x[1].cmp(&y[1]))
+                });
                 let Some(pick) = pick else { break };
                 used.push(pick[0]);
                 if takes_a(a.len(), b.len(), sizes) {
@@ -1056,18 +1059,26 @@ mod searches {
         all
     }
 
+    /// Some lines would hold other matches if all guests had joined at once.
     #[test]
     fn greedy_search() {
-        let mut seen = [0; 14];
+        let (mut seen, mut by_wait) = ([0; 14], 0);
         for mut line in lines(25) {
             let (search, columns) = (search(&mut line), columns(&mut line, 2));
             let sheets = [line.word(), line.word()];
             let sizes = search.sizes.map(|size| size as usize);
             let checked = checked(&search, columns, sheets, 0);
-            let expected = checked.map(|(queue, columns)| greedy(queue, sizes, &columns));
+            let expected = checked.map(|(queue, columns)| {
+                let formed = greedy(queue, sizes, &columns);
+                let mut at_once = queue.to_vec();
+                at_once.iter_mut().for_each(|entry| entry[1] = 0);
+                by_wait += usize::from(greedy(&at_once, sizes, &columns).0 != formed.0);
+                formed
+            });
             formed(line, expected, &mut seen);
         }
         all_seen(seen, &[1, 2, 3, 4]);
+        assert!(by_wait > 10, "{by_wait}");
     }
 
     #[test]

@@ -55,6 +55,7 @@ const SEARCHES: &str = "\
 # and every quality is -1.0. formed = k and k players, match by match, team A then B, then c and c qualities of as many matches; all
 # else stays as it was. Of a refused call k and c are 0.
 # 25 greedy_search: queue, sizes, columns ids and ratings, sheets -> refusal, formed
+# Where joined times fall the Rust has no answer to 25: of equal distances the earlier joined time is then picked, then the earlier place.
 # 26 nearest: max, queue, sizes, columns ids and ratings, sheets -> refusal, formed
 # 27 beam_search: width, queue, sizes, weights (quality wait ping uncertainty), columns ids, ratings and deviations, clock, sheets -> refusal, formed
 # 28 exhaustive: queue, sizes, sheets -> refusal, formed

@@ -24,6 +24,11 @@ impl LaterCopy {
         other(self.place - 1) && other(self.place + 1)
     }
 
+    /// Did it join later than the entry it was made of?
+    pub fn joined_later(&self, queue: &Queue) -> bool {
+        queue.entries[self.place].joined > queue.entries[self.of].joined
+    }
+
     pub fn of_a_copy(&self, copies: &[LaterCopy]) -> bool {
         copies.iter().any(|copy| copy.place == self.of)
     }
@@ -34,18 +39,20 @@ mod tests {
     use super::*;
     use yilgashe_sys::QueueEntry;
 
-    fn queue(players: &[u64]) -> Queue {
-        let entry = |&player| QueueEntry {
+    /// Guests and their joined times.
+    fn queue(guests: &[(u64, u64)]) -> Queue {
+        let entry = |&(player, joined)| QueueEntry {
             player,
+            joined,
             ..QueueEntry::default()
         };
-        let entries: Vec<QueueEntry> = players.iter().map(entry).collect();
+        let entries: Vec<QueueEntry> = guests.iter().map(entry).collect();
         Queue::of(&entries)
     }
 
     #[test]
-    fn where_copies_stand() {
-        let queue = queue(&[1, 1, 2, 1, 3, 2]);
+    fn where_copies_stand_and_when_they_joined() {
+        let queue = queue(&[(1, 5), (1, 5), (2, 5), (1, 6), (3, 7), (2, 5)]);
         let copies = [(1, 0), (3, 1), (5, 2)].map(|(place, of)| LaterCopy { place, of });
         assert_eq!(copies.map(|c| c.directly_behind()), [true, false, false]);
         assert_eq!(
@@ -53,5 +60,6 @@ mod tests {
             [false, true, false]
         );
         assert_eq!(copies.map(|c| c.of_a_copy(&copies)), [false, true, false]);
+        assert_eq!(copies.map(|c| c.joined_later(&queue)), [false, true, false]);
     }
 }

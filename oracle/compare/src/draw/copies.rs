@@ -1,22 +1,34 @@
 //! Queues with later copies put in.
 
-use super::{Times, joined, late_time, party, role, times};
+use super::{late_time, later, party, role};
 use crate::data::LaterCopy;
 use crate::model::QUEUE_LIMIT;
 use crate::rng::Rng;
 use std::array::from_fn;
 use yilgashe_sys::{Queue, QueueEntry};
 
+/// When the copies of a queue joined: never before the entry that they are made of.
+#[derive(Clone, Copy)]
+enum Joins {
+    /// With it.
+    Together,
+    /// With it, or with the entry that they stand behind if that joined later: a queue in joining order stays so.
+    InOrder,
+    /// With it or later.
+    Later,
+}
+
 /// The queue with copies of its entries behind them, at most `most` of them unless they lead over the limit. Then `len` counts all,
 /// though the last find no place.
 pub fn copied(rng: &mut Rng, queue: &Queue, most: usize) -> (Queue, Vec<LaterCopy>) {
     let mut entries = queue.entries.to_vec();
     let mut copies: Vec<LaterCopy> = Vec::new();
-    let (waiting, times) = (queue.waiting().len(), times(rng));
+    let (waiting, joins) = (queue.waiting().len(), joins(rng));
     for len in waiting..waiting + copy_count(rng, waiting, most) {
         let of = copied_place(rng, len, &copies);
         let place = place_behind(rng, of, len);
-        entries.insert(place, copy_of(rng, &entries[of], times));
+        let joined = copy_joined(rng, &entries[of], &entries[place - 1], joins);
+        entries.insert(place, copy_of(rng, &entries[of], joined));
         for copy in &mut copies {
             copy.place += usize::from(copy.place >= place);
             copy.of += usize::from(copy.of >= place);
@@ -59,34 +71,42 @@ fn place_behind(rng: &mut Rng, of: usize, len: usize) -> usize {
 }
 
 /// The same guest and rating bits.
-fn copy_of(rng: &mut Rng, entry: &QueueEntry, times: Times) -> QueueEntry {
+fn copy_of(rng: &mut Rng, entry: &QueueEntry, joined: u64) -> QueueEntry {
     QueueEntry {
-        joined: copy_joined(rng, entry, times),
+        joined,
         party: party(rng),
         role: role(rng),
         ..*entry
     }
 }
 
-/// Any time, as greedy search reads none; seldom a late one.
-fn copy_joined(rng: &mut Rng, _: &QueueEntry, times: Times) -> u64 {
-    match rng.one_in(150) {
-        true => late_time(rng),
-        false => joined(rng, times),
+fn joins(rng: &mut Rng) -> Joins {
+    rng.weighted(&[(3, Joins::Together), (4, Joins::InOrder), (2, Joins::Later)])
+}
+
+/// Of a copy of `entry` that stands directly behind `before`; seldom a late time.
+fn copy_joined(rng: &mut Rng, entry: &QueueEntry, before: &QueueEntry, joins: Joins) -> u64 {
+    if rng.one_in(150) {
+        return late_time(rng).max(entry.joined);
+    }
+    match joins {
+        Joins::Together => entry.joined,
+        Joins::InOrder => entry.joined.max(before.joined),
+        Joins::Later => later(rng, entry.joined),
     }
 }
 
 #[cfg(test)]
 mod tests {
-    use super::super::{Scale, searched};
+    use super::super::{Scale, greedy_queue};
     use super::*;
-    use crate::model::{joined_late, over};
+    use crate::model::{joined_late, never_falls, over};
 
     /// Queues, each with copies put in.
     fn drawn(most: usize) -> Vec<(Queue, Queue, Vec<LaterCopy>)> {
         let mut rng = Rng::new(1);
         let draw = |_| {
-            let queue = searched(&mut rng, Scale::Full);
+            let queue = greedy_queue(&mut rng, Scale::Full);
             let (doubled, copies) = copied(&mut rng, &queue, most);
             (queue, doubled, copies)
         };
@@ -99,14 +119,31 @@ mod tests {
     }
 
     #[test]
-    fn copies_stand_behind_the_same_guest_and_rating_bits() {
+    fn copies_stand_behind_the_same_guest_and_rating_bits_who_joined_no_later() {
         for (_, doubled, copies) in drawn(QUEUE_LIMIT) {
             let within = copies.iter().filter(|copy| copy.place < QUEUE_LIMIT);
             for LaterCopy { place, of } in within {
                 assert!(of < place);
-                assert_eq!(bits(&doubled.entries[*of]), bits(&doubled.entries[*place]));
+                let (original, copy) = (&doubled.entries[*of], &doubled.entries[*place]);
+                assert_eq!(bits(original), bits(copy));
+                assert!(original.joined <= copy.joined);
             }
         }
+    }
+
+    /// Of those in joining order that copies come into, some fall then; of those that fall, none is in order then.
+    #[test]
+    fn queues_stay_in_joining_order_often() {
+        let drawn = drawn(QUEUE_LIMIT);
+        let doubled = drawn
+            .iter()
+            .filter(|(_, d, copies)| !over(d) && !copies.is_empty());
+        let (in_order, others): (Vec<_>, Vec<_>) =
+            doubled.partition(|(q, ..)| never_falls(q.waiting()));
+        let stay = in_order.iter().filter(|(_, d, _)| never_falls(d.waiting()));
+        let (stay, all) = (stay.count(), in_order.len());
+        assert!(stay > all / 3 && stay < all, "{stay} of {all}");
+        assert!(others.iter().all(|(_, d, _)| !never_falls(d.waiting())));
     }
 
     #[test]

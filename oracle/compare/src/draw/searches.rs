@@ -5,7 +5,7 @@ use super::{LONG, Scale, WILD, clock, match_objective, queue};
 use crate::data::{Columns, Sheets};
 use crate::model::{Beam, LISTED_LIMIT, QUEUE_LIMIT, SHEET_LEAST, TEAM_LIMIT, WIDTH_LIMIT, ways};
 use crate::rng::Rng;
-use yilgashe_sys::{Queue, TeamComposition};
+use yilgashe_sys::{Queue, QueueEntry, TeamComposition};
 
 /// A queue as any other, or of players who wait but once, save for a few copies.
 pub fn searched(rng: &mut Rng, scale: Scale) -> Queue {
@@ -24,6 +24,57 @@ pub fn searched(rng: &mut Rng, scale: Scale) -> Queue {
         };
     }
     queue
+}
+
+/// A queue for greedy search.
+pub fn greedy_queue(rng: &mut Rng, scale: Scale) -> Queue {
+    let mut queue = searched(rng, scale);
+    let len = queue.waiting().len();
+    tie(rng, &mut queue.entries[..len]);
+    queue
+}
+
+/// Makes distances equal in most queues, and puts more than half of them in joining order, some but for two guests.
+pub(super) fn tie(rng: &mut Rng, waiting: &mut [QueueEntry]) {
+    if !rng.one_in(3) {
+        repeat_distances(rng, waiting);
+    }
+    let order = rng.below(10);
+    if order < 6 {
+        put_in_order(rng, waiting);
+    }
+    if order < 2 && !waiting.is_empty() {
+        let (one, other) = (rng.below(waiting.len()), rng.below(waiting.len()));
+        (waiting[one].joined, waiting[other].joined) = (waiting[other].joined, waiting[one].joined);
+    }
+}
+
+/// Gives some guests the rating of one before them, or one just as far on the other side of the first.
+fn repeat_distances(rng: &mut Rng, waiting: &mut [QueueEntry]) {
+    for place in 1..waiting.len() {
+        let (first, earlier) = (waiting[0].rating, waiting[rng.below(place)].rating);
+        let opposite = first - (earlier - first);
+        match rng.below(4) {
+            0 => waiting[place].rating = earlier,
+            1 if opposite.is_finite() => waiting[place].rating = opposite,
+            _ => {}
+        }
+    }
+}
+
+/// Sorts joined times; in half of the cases many of them become equal.
+fn put_in_order(rng: &mut Rng, waiting: &mut [QueueEntry]) {
+    let mut times: Vec<u64> = waiting.iter().map(|entry| entry.joined).collect();
+    times.sort_unstable();
+    let together = rng.one_in(2);
+    for place in 1..times.len() {
+        if together && rng.one_in(2) {
+            times[place] = times[place - 1];
+        }
+    }
+    for (entry, time) in waiting.iter_mut().zip(times) {
+        entry.joined = time;
+    }
 }
 
 /// Both small mostly; any from 0 to 8; seldom over limit.
@@ -282,6 +333,62 @@ mod tests {
         };
         assert!((1000..3000).contains(&queues.iter().filter(doubled).count()));
     }
+
+    /// So many of their queues of three and more fall nowhere, in one place, in two or more.
+    fn falls(queues: &[Queue]) -> [usize; 3] {
+        let mut seen = [0; 3];
+        for queue in queues.iter().filter(|queue| (3..=64).contains(&queue.len)) {
+            let pairs = queue.waiting().windows(2);
+            let falling = pairs.filter(|pair| pair[1].joined < pair[0].joined);
+            seen[falling.count().min(2)] += 1;
+        }
+        seen
+    }
+
+    #[test]
+    fn greedy_queues_in_joining_order_and_others() {
+        for scale in [Scale::Full, Scale::Stored] {
+            let seen = falls(&drawn(|rng| greedy_queue(rng, scale)));
+            assert!(seen[0] > seen[1] + seen[2], "{seen:?}");
+            assert!(seen[1] > 50 && seen[2] > 500, "{seen:?}");
+        }
+    }
+
+    /// In order, of three and more: with all times different, with all equal, with some.
+    #[test]
+    fn greedy_queues_with_equal_joined_times() {
+        let mut seen = [0; 3];
+        for queue in drawn(|rng| greedy_queue(rng, Scale::Full)) {
+            let waiting = queue.waiting();
+            if model::never_falls(waiting) && waiting.len() > 2 {
+                let pairs = waiting.windows(2);
+                let equal = pairs.filter(|pair| pair[1].joined == pair[0].joined);
+                seen[match equal.count() {
+                    0 => 0,
+                    all if all + 1 == waiting.len() => 1,
+                    _ => 2,
+                }] += 1;
+            }
+        }
+        assert!(seen.iter().all(|&count| count > 200), "{seen:?}");
+    }
+
+    /// Does the rating of some guest lie so from the first's as that of another one does?
+    fn repeats(queue: &Queue, so: fn(f64, f64) -> bool) -> bool {
+        let first = queue.entries[0].rating;
+        let apart = queue.waiting().iter().map(|entry| entry.rating - first);
+        let apart: Vec<f64> = apart.filter(|apart| apart.abs() > 0.0).collect();
+        (1..apart.len()).any(|i| apart[..i].iter().any(|&earlier| so(earlier, apart[i])))
+    }
+
+    #[test]
+    fn greedy_queues_repeat_distances_on_both_sides() {
+        let queues = drawn(|rng| greedy_queue(rng, Scale::Full));
+        let seen = |so| queues.iter().filter(|queue| repeats(queue, so)).count();
+        let (same, opposite) = (seen(|x, y| x == y), seen(|x, y| x == -y));
+        assert!(same > 1500 && opposite > 1000, "{same} {opposite}");
+    }
+
     #[test]
     fn listings_reach_every_boundary() {
         let mut rng = Rng::new(1);

@@ -33,6 +33,11 @@ impl Case {
             ..self.plain.clone()
         }
     }
+
+    /// What is expected of each queue by itself: one may be refused, or fall, and the other not.
+    fn expected(&self) -> (Given, Given) {
+        (expected(&self.plain), expected(&self.with_copies()))
+    }
 }
 
 /// The refusal and the answer to one queue; no answer where the Rust panics, so that this too is a difference.
@@ -40,7 +45,8 @@ type Given = (u8, Option<Formed>);
 
 fn expected(case: &search::Case) -> Given {
     match GreedySearch::refusal(case) {
-        0 => (0, caught(|| GreedySearch::rust(case))),
+        0 if GreedySearch::has_rust(case) => (0, caught(|| GreedySearch::rust(case))),
+        0 => (0, GreedySearch::model(case)),
         number => (number, Some(GreedySearch::refused(case))),
     }
 }
@@ -66,13 +72,21 @@ impl Function for GreedyCopied {
         GreedySearch::refusal(&case.with_copies())
     }
 
-    /// Each queue by itself: the other may not be refused.
     fn refused(case: &Case) -> Self::Answer {
-        Self::rust(case)
+        case.expected()
+    }
+
+    fn has_rust(case: &Case) -> bool {
+        GreedySearch::has_rust(&case.plain) && GreedySearch::has_rust(&case.with_copies())
     }
 
     fn rust(case: &Case) -> Self::Answer {
-        (expected(&case.plain), expected(&case.with_copies()))
+        case.expected()
+    }
+
+    /// Of one queue or of both.
+    fn model(case: &Case) -> Option<Self::Answer> {
+        Some(case.expected())
     }
 
     fn library(case: &Case) -> (u8, Self::Answer) {
@@ -172,8 +186,16 @@ impl<S: Search> Function for Seated<S> {
         S::refused(case)
     }
 
+    fn has_rust((case, _): &Self::Case) -> bool {
+        S::has_rust(case)
+    }
+
     fn rust((case, _): &Self::Case) -> Formed {
         S::rust(case)
+    }
+
+    fn model((case, _): &Self::Case) -> Option<Formed> {
+        S::model(case)
     }
 
     fn library((case, _): &Self::Case) -> (u8, Formed) {
@@ -217,6 +239,7 @@ fn seats_guests_once(
 fn corners(queue: &Queue, copies: &[LaterCopy], refusal: u8, seats: &[u64]) -> Vec<Corner> {
     let copies = if refusal == 0 { copies } else { &[] };
     let any = |reaches: &dyn Fn(&LaterCopy) -> bool| copies.iter().any(reaches);
+    let later = any(&|copy| copy.joined_later(queue));
     vec![
         ("put in", !copies.is_empty()),
         ("formed", !copies.is_empty() && !seats.is_empty()),
@@ -227,6 +250,8 @@ fn corners(queue: &Queue, copies: &[LaterCopy], refusal: u8, seats: &[u64]) -> V
         ("behind", any(&|copy| copy.directly_behind())),
         ("between", any(&|copy| copy.between_others(queue))),
         ("of a copy", any(&|copy| copy.of_a_copy(copies))),
+        ("together", !copies.is_empty() && !later),
+        ("later", later),
     ]
 }
 
@@ -284,7 +309,7 @@ mod tests {
         })
     }
 
-    /// The Rust and the library each part from themselves.
+    /// The expected answers, be they the Rust's or the model's, and the library's each part from themselves.
     fn broken(verdict: &Verdict) -> bool {
         let sides = ["expected", "library"];
         let line = |side| format!("broken:   {side}, copies change the matches");
@@ -313,6 +338,40 @@ mod tests {
     fn a_copy_with_another_rating_shows() {
         let [one, two, three] = NEAR;
         assert!(broken(&pairs(&NEAR, &[one, two, three, (3, 1000.0)])));
+    }
+
+    /// Guest 3 joined after 2, and comes once more at the end with this joined time.
+    fn copied_last(time: u64) -> Case {
+        let joined = |guests: &[(u64, f64)], times: &[u64]| {
+            let mut queue = queue(guests);
+            for (entry, time) in queue.entries.iter_mut().zip(times) {
+                entry.joined = *time;
+            }
+            queue
+        };
+        let [one, two, three] = NEAR;
+        Case {
+            plain: search::Case {
+                queue: joined(&NEAR, &[5, 5, 7]),
+                ..greedy(&NEAR)
+            },
+            doubled: joined(&[one, two, three, three], &[5, 5, 7, time]),
+            copies: Vec::new(),
+        }
+    }
+
+    #[test]
+    fn a_copy_that_joined_earlier_shows() {
+        for time in [7, 8, 1 << 53] {
+            let verdict = judge_case::<GreedyCopied>(&copied_last(time));
+            assert_eq!((verdict.source, verdict.difference), (Source::Rust, None));
+        }
+        let earlier = copied_last(0);
+        assert!(broken(&judge_case::<GreedyCopied>(&earlier)));
+        let (_, (plain, doubled)) = GreedyCopied::library(&earlier);
+        for ((_, formed), seated) in [(plain, [1, 2]), (doubled, [1, 3])] {
+            assert_eq!(formed.expect("not refused").1.players[..2], seated);
+        }
     }
 
     /// How many of 300 drawn cases, none of them refused, break the law once they are changed.
@@ -350,6 +409,14 @@ mod tests {
             broken_by(|case| {
                 for copy in &case.copies {
                     case.doubled.entries[copy.place].player = 500;
+                }
+            }),
+            broken_by(|case| {
+                let (plain, doubled) = (&mut case.plain.queue, &mut case.doubled);
+                let all = plain.entries.iter_mut().chain(&mut doubled.entries);
+                all.for_each(|entry| entry.joined = entry.joined.max(1));
+                for copy in &case.copies {
+                    doubled.entries[copy.place].joined = 0;
                 }
             }),
         ];
@@ -434,6 +501,19 @@ mod tests {
         assert!(refused > 200, "{refused}");
     }
 
+    #[test]
+    fn both_the_rust_and_the_model_are_asked() {
+        let mut seen = [0; 2];
+        for number in 0..1000 {
+            let mut rng = Rng::for_case(1, GreedyCopied::NAME, number);
+            let case = GreedyCopied::draw(&mut rng, Scale::Full);
+            if GreedyCopied::refusal(&case) == 0 && !case.copies.is_empty() {
+                seen[usize::from(GreedyCopied::has_rust(&case))] += 1;
+            }
+        }
+        assert!(seen.iter().all(|&count| count > 100), "{seen:?}");
+    }
+
     /// On the default seed.
     #[test]
     fn every_corner_is_reached() {
@@ -448,7 +528,7 @@ mod tests {
             }
             let corners = &tally.corners;
             let name = function.name;
-            assert!(corners.len() >= 6, "{name} {corners:?}");
+            assert!(corners.len() >= 8, "{name} {corners:?}");
             assert!(corners.iter().all(|(_, n)| *n > 20), "{name} {corners:?}");
         }
     }

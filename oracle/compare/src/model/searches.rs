@@ -128,6 +128,27 @@ pub(super) fn takes_a(sizes: &TeamComposition, a: usize, b: usize) -> bool {
     a < sizes.a && (a <= b || b == sizes.b)
 }
 
+/// Each match with its quality by the roster's ratings.
+pub fn rated(matches: Vec<Teams>, columns: &Columns) -> Vec<(Teams, f64)> {
+    let Columns { ids, ratings, .. } = columns;
+    let with_quality = |(a, b): Teams| {
+        let quality = quality_between(&a, &b, ids, ratings);
+        ((a, b), quality)
+    };
+    matches.into_iter().map(with_quality).collect()
+}
+
+/// Writes the matches, team A then B, and their qualities from the first place on; gives all who are seated.
+pub fn lay(matches: &[(Teams, f64)], sheets: &mut Sheets) -> Vec<u64> {
+    let teams = matches.iter().flat_map(|((a, b), _)| a.iter().chain(b));
+    let seated: Vec<u64> = teams.copied().collect();
+    sheets.players[..seated.len()].copy_from_slice(&seated);
+    for (place, (_, quality)) in sheets.qualities.iter_mut().zip(matches) {
+        *place = *quality;
+    }
+    seated
+}
+
 /// The search itself, for input within the limits; none where a step ranks two or more and one is NaN.
 impl Beam {
     pub fn matches(&self) -> Option<Vec<Teams>> {

@@ -3,10 +3,11 @@
 use super::super::rules::{self, bad_pairs, over_limit, unlisted};
 use super::super::{
     BAD_ROSTER, Beam, CLOCK, Choice, Greedy, LISTED_LIMIT, OVER_LIMIT, SHORT_SHEET, TOO_WIDE,
-    Teams, UNRANKED, WIDTH_LIMIT, bad, first, large, late, long, quality_between, short, ways,
+    Teams, UNRANKED, WIDTH_LIMIT, bad, first, large, late, lay, long, longer_wait, rated, short,
+    ways,
 };
 use super::Hall;
-use crate::data::{Answer, Columns, Round, Rows, Search, Sheets};
+use crate::data::{Answer, Columns, Round, Rows, Search};
 use yilgashe_sys::{Constraints, MatchObjective, ProposedMatch, Queue, SoftObjectives};
 
 /// The matches with their qualities, and how many choices were tried.
@@ -66,7 +67,7 @@ impl Hall {
             sizes: round.sizes,
             columns,
         };
-        Ok(rated(search.matches(), columns))
+        Ok(searched(search.matches(longer_wait), columns))
     }
 
     fn beam(
@@ -91,7 +92,7 @@ impl Hall {
             clock: round.clock,
         };
         let matches = search.matches().ok_or(UNRANKED)?;
-        Ok(rated(matches, columns))
+        Ok(searched(matches, columns))
     }
 
     fn full(
@@ -138,34 +139,19 @@ fn check(checks: &[(bool, u8)]) -> Result<(), u8> {
     }
 }
 
-/// Each match with its quality by the roster's ratings.
-fn rated(matches: Vec<Teams>, columns: &Columns) -> Formed {
-    let Columns { ids, ratings, .. } = columns;
-    let with_quality = |(a, b): Teams| {
-        let quality = quality_between(&a, &b, ids, ratings);
-        ((a, b), quality)
-    };
+/// The matches of a search, each with its quality; it tries no choices.
+fn searched(matches: Vec<Teams>, columns: &Columns) -> Formed {
     Formed {
-        matches: matches.into_iter().map(with_quality).collect(),
+        matches: rated(matches, columns),
         tried: 0,
     }
-}
-
-/// Writes the matches, team A then B, and their qualities from the first place on; gives all who are seated.
-fn lay(matches: &[(Teams, f64)], sheets: &mut Sheets) -> Vec<u64> {
-    let teams = matches.iter().flat_map(|((a, b), _)| a.iter().chain(b));
-    let seated: Vec<u64> = teams.copied().collect();
-    sheets.players[..seated.len()].copy_from_slice(&seated);
-    for (place, (_, quality)) in sheets.qualities.iter_mut().zip(matches) {
-        *place = *quality;
-    }
-    seated
 }
 
 #[cfg(test)]
 mod tests {
     use super::super::super::CLOCK_LIMIT;
     use super::*;
+    use crate::data::Sheets;
     use yilgashe_sys::{
         Brought, QueueEntry, RegionConstraint, RegionPair, RoleRequirement, RoleRequirements,
         TeamComposition, TeamSizeConstraint,
@@ -304,10 +290,13 @@ mod tests {
     }
 
     #[test]
-    fn greedy_takes_the_earlier_of_equal_distance() {
+    fn greedy_takes_the_longer_wait_of_equal_distance() {
         let ratings = [1000.0, 1010.0, 990.0];
         let pair = round(greedy(&ratings), 1, 1);
         expect(&mut hall(&ratings), &pair, &[1, 2], &[0.975], &[3]);
+        let mut imported = hall(&ratings);
+        imported.waiting[1].joined = 1;
+        expect(&mut imported, &pair, &[1, 3], &[0.975], &[2]);
     }
 
     #[test]
