@@ -1,16 +1,19 @@
-//! The hall on drawn lists of calls: the library beside the model after every call, and demand 3 on the library's own answers.
+//! The hall on drawn lists of calls: the library beside the model after every call, greedy rounds in joining order beside the Rust
+//! too, and demand 3 on the library's own answers.
 
+mod beside;
 mod counter;
 mod counts;
 mod demand;
 
 pub use counter::{Counter, Library, Modelled};
-pub use counts::Counts;
+pub use counts::{Counts, Held};
 
 use crate::data::{Answer, Call};
 use crate::draw;
 use crate::rng::Rng;
 use crate::same::Same;
+use beside::beside_rust;
 use demand::{Ledger, Mark};
 use std::fmt::Debug;
 use yilgashe_sys::{Hall, KeyLog, Queue};
@@ -52,7 +55,11 @@ pub fn judge<L: Counter, M: Counter>(calls: &[Call], counts: &mut Counts) -> Res
         let after = library.hall();
         counts.count(call, &answer);
         let agreed = agree(call, (&answer, &after), (&model.serve(call), &model.hall()));
-        let marked = agreed.and_then(|()| ledger.enter(call, &answer, &before, &after));
+        let marked = agreed.and_then(|()| {
+            let mark = ledger.enter(call, &answer, &before, &after)?;
+            counts.held.count(beside_rust(call, &answer, &before)?);
+            Ok(mark)
+        });
         match marked.map_err(|difference| format!("call {place}: {difference}"))? {
             Mark::Resend => counts.resends += 1,
             Mark::Original | Mark::Other => kept.push((call, answer)),
@@ -88,7 +95,9 @@ pub fn judge_single<L: Counter, M: Counter>(
     let (answer, expected) = (library.serve(call), model.serve(call));
     counts.count_single(&answer);
     let agreed = agree(call, (&answer, &library.hall()), (&expected, &model.hall()));
-    agreed.map_err(|difference| format!("{difference}\n  before: {:?}", hall.waiting))
+    agreed.map_err(|difference| format!("{difference}\n  before: {:?}", hall.waiting))?;
+    counts.held_single.count(beside_rust(call, &answer, hall)?);
+    Ok(())
 }
 
 /// Answers and halls are the same, or where they part in words.

@@ -2,8 +2,8 @@
 
 use compare::data::{Answer, Call, Search};
 use compare::lists::{self, Counter, Counts, Library, Modelled};
-use compare::model::Choice;
 use compare::model::hall::{Hall as Model, Kind, Note};
+use compare::model::{Choice, Greedy, Rule, earlier_place, longer_wait};
 use yilgashe_sys::{Hall, Queue};
 
 /// On the default seed.
@@ -14,7 +14,7 @@ fn run<L: Counter, M: Counter>(calls: u64) -> (Counts, Vec<String>) {
 }
 
 #[test]
-fn every_refusal_of_the_hall_is_reached() {
+fn every_refusal_and_every_sort_of_greedy_round_is_reached() {
     let (counts, differences) = run::<Library, Modelled>(20_000);
     assert_eq!(differences, [""; 0]);
     for number in 1..=11 {
@@ -22,6 +22,10 @@ fn every_refusal_of_the_hall_is_reached() {
     }
     assert_eq!(counts.refused(12), 0);
     assert!(counts.lists > 50 && counts.resends > 1000 && counts.matches() > 1000);
+    for held in [counts.held, counts.held_single] {
+        assert!(held.rust > 100 && held.model > 100, "{held:?}");
+        assert!(held.parted > 40 && held.parted < held.model, "{held:?}");
+    }
 }
 
 /// A model that breaks one rule.
@@ -152,6 +156,59 @@ fn hands_out(hall: &mut Model, call: &Call, beats: fn(f64, f64) -> bool) -> Answ
     answer
 }
 
+wrong!(
+    TiesGoByPlace,
+    hall,
+    call,
+    picks_by(hall, call, earlier_place)
+);
+
+wrong!(
+    TiesGoToTheShorterWait,
+    hall,
+    call,
+    picks_by(hall, call, |one, other| {
+        let swapped = longer_wait(other, one);
+        one.distance.total_cmp(&other.distance).then(swapped)
+    })
+);
+
+wrong!(
+    WaitGoesBeforeDistance,
+    hall,
+    call,
+    picks_by(hall, call, |one, other| {
+        let times = one.joined.cmp(&other.joined);
+        times.then(longer_wait(one, other))
+    })
+);
+
+/// A greedy round that picks by this rule.
+fn picks_by(hall: &mut Model, call: &Call, rule: Rule) -> Answer {
+    let mut waiting = hall.waiting.clone();
+    let answer = hall.answer(call);
+    let (Call::Round(round), 0) = (call, answer.refusal) else {
+        return answer;
+    };
+    let Search::Greedy(columns) = &round.search else {
+        return answer;
+    };
+    let search = Greedy {
+        waiting: &waiting,
+        sizes: round.sizes,
+        columns,
+    };
+    let (count, sheets) = search.laid_on(&round.sheets, rule);
+    let seated = &sheets.players[..count * (round.sizes.a + round.sizes.b)];
+    waiting.retain(|entry| !seated.contains(&entry.player));
+    hall.waiting = waiting;
+    Answer {
+        count,
+        sheets,
+        ..answer
+    }
+}
+
 wrong!(RemovesOneEntryOfTheSeated, hall, call, {
     let mut before = hall.waiting.clone();
     let answer = hall.answer(call);
@@ -213,14 +270,37 @@ fn other_rules_are_found_out() {
         ),
         ("hands out nothing later", found::<HandsOutNothingLater>()),
         ("writes behind", found::<WritesBehindTheMatches>()),
+        ("ties by place", found::<TiesGoByPlace>()),
+        ("ties by shorter wait", found::<TiesGoToTheShorterWait>()),
+        ("wait before distance", found::<WaitGoesBeforeDistance>()),
     ];
     assert!(others.iter().all(|(_, count)| *count > 3), "{others:?}");
 }
 
-/// How many lists break demand 3, with no model to compare with.
-fn broken<L: Counter>() -> usize {
+/// How many differences say so, with no model to compare with.
+fn said<L: Counter>(words: &[&str]) -> usize {
     let (_, differences) = run::<L, L>(4000);
-    differences.len()
+    let says = |difference: &&String| words.iter().any(|words| difference.contains(words));
+    differences.iter().filter(says).count()
+}
+
+/// In joining order alone, where ties by place are right.
+#[test]
+fn the_rust_finds_out_other_rules_for_picks() {
+    fn parted<L: Counter>() -> usize {
+        said::<L>(&["the Rust answers otherwise"])
+    }
+    let others = [
+        ("ties by shorter wait", parted::<TiesGoToTheShorterWait>()),
+        ("wait before distance", parted::<WaitGoesBeforeDistance>()),
+    ];
+    assert!(others.iter().all(|(_, count)| *count > 3), "{others:?}");
+    assert_eq!(parted::<TiesGoByPlace>(), 0);
+}
+
+/// How many lists break demand 3.
+fn broken<L: Counter>() -> usize {
+    said::<L>(&["demand 3", "without resends"])
 }
 
 #[test]

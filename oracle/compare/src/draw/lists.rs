@@ -1,10 +1,10 @@
 //! Lists of calls from an empty hall, and single calls on halls of any kind.
 
 use super::choices::{choice_among, latency};
-use super::searches::{settle, some_seats, width};
+use super::searches::{settle, some_seats, tie, width};
 use super::{
-    LONG, ODD_IDS, Ratings, Scale, Times, clock, entry, joined, late_time, match_objective, party,
-    player, queue, rating, ratings, role, searched_columns, sheets, team_sizes, times,
+    LONG, ODD_IDS, Ratings, Scale, Times, clock, entry, joined, late_time, later, match_objective,
+    party, player, queue, rating, role, searched_columns, sheets, team_sizes, times,
 };
 use crate::data::{Call, Round, Search};
 use crate::model::hall::{self, NOTE_LIMIT};
@@ -46,6 +46,18 @@ struct Evening {
     guests: Vec<u64>,
     ratings: Ratings,
     times: Times,
+    /// Nobody comes who joined before the last of those who wait.
+    in_order: bool,
+}
+
+/// Such that distances are often equal.
+fn tying_ratings(rng: &mut Rng) -> Ratings {
+    rng.weighted(&[
+        (2, Ratings::Equal),
+        (5, Ratings::Few),
+        (2, Ratings::Plain),
+        (2, Ratings::Wild),
+    ])
 }
 
 /// By its number, so that every sort of list comes early.
@@ -87,8 +99,9 @@ impl Evening {
             keyed: Vec::new(),
             fresh: u64::from(rng.one_in(2)),
             guests,
-            ratings: ratings(rng),
+            ratings: tying_ratings(rng),
             times: times(rng),
+            in_order: rng.one_in(2),
         }
     }
 
@@ -134,8 +147,8 @@ impl Evening {
     /// A crowd stays one: greedy and beam rounds would seat it.
     fn round(&self, rng: &mut Rng) -> Call {
         let shares = match self.mood {
-            Mood::Crowd => [1, 1, 6],
-            Mood::Plain | Mood::Long => [1, 1, 1],
+            Mood::Crowd => [2, 1, 6],
+            Mood::Plain | Mood::Long => [2, 1, 1],
         };
         let queue = Queue::of(&self.hall.waiting);
         Call::Round(Box::new(round(rng, &queue, shares)))
@@ -162,11 +175,18 @@ impl Evening {
             player,
             joined: match rng.one_in(20) {
                 true => late_time(rng),
-                false => joined(rng, self.times),
+                false => self.joined(rng),
             },
             rating: rating(rng, self.ratings),
             party: party(rng),
             role: role(rng),
+        }
+    }
+
+    fn joined(&self, rng: &mut Rng) -> u64 {
+        match self.hall.waiting.last() {
+            Some(last) if self.in_order => later(rng, last.joined),
+            _ => joined(rng, self.times),
         }
     }
 
@@ -305,6 +325,8 @@ pub fn single(rng: &mut Rng) -> (Hall, Call) {
     if waiting.len <= QUEUE_LIMIT && rng.one_in(2) {
         waiting.len = waiting.len.min(rng.below(13));
     }
+    let len = waiting.waiting().len();
+    tie(rng, &mut waiting.entries[..len]);
     let hall = Hall {
         log: log(rng, &waiting),
         waiting,
@@ -318,7 +340,7 @@ pub fn single(rng: &mut Rng) -> (Hall, Call) {
             key: key(rng, &hall.log),
             player: player(rng, &hall.waiting),
         },
-        _ => Call::Round(Box::new(round(rng, &hall.waiting, [1, 1, 1]))),
+        _ => Call::Round(Box::new(round(rng, &hall.waiting, [2, 1, 1]))),
     };
     let call = if rng.one_in(3) {
         again(rng, &hall.log, call)
@@ -398,6 +420,21 @@ mod tests {
         }
     }
 
+    /// In order: after every call of the list.
+    #[test]
+    fn lists_in_joining_order_and_others() {
+        let in_order = |number: &u64| {
+            let mut hall = hall::Hall::default();
+            let calls = list(&mut Rng::for_case(1, "hall", *number), *number);
+            calls.iter().all(|call| {
+                hall.answer(call);
+                model::never_falls(&hall.waiting)
+            })
+        };
+        let kept = (0..64).filter(in_order).count();
+        assert!((20..48).contains(&kept), "{kept}");
+    }
+
     #[test]
     fn single_halls_of_every_sort() {
         let mut rng = Rng::new(1);
@@ -413,5 +450,7 @@ mod tests {
             model::doubled(&ids)
         };
         assert!(seen(doubled) > 200);
+        let falls = |hall: &Hall| !model::never_falls(hall.waiting.waiting());
+        assert!((200..700).contains(&seen(falls)));
     }
 }

@@ -1,5 +1,6 @@
 //! Counts of calls and answers, and their lines in the report.
 
+use super::beside::Beside;
 use crate::data::{Answer, Call};
 use std::array::from_fn;
 
@@ -24,6 +25,30 @@ struct Row {
     matches: usize,
 }
 
+/// What greedy rounds that were not refused were held to.
+#[derive(Clone, Copy, Debug, Default)]
+pub struct Held {
+    /// Joined times never fall: to the Rust too.
+    pub rust: usize,
+    /// They do: to the model alone.
+    pub model: usize,
+    /// Of these the Rust answers otherwise.
+    pub parted: usize,
+}
+
+impl Held {
+    pub(super) fn count(&mut self, beside: Option<Beside>) {
+        match beside {
+            None => {}
+            Some(Beside::Rust) => self.rust += 1,
+            Some(Beside::Model { parted }) => {
+                self.model += 1;
+                self.parted += usize::from(parted);
+            }
+        }
+    }
+}
+
 #[derive(Default)]
 pub struct Counts {
     pub lists: u64,
@@ -31,6 +56,9 @@ pub struct Counts {
     pub calls: u64,
     pub resends: u64,
     pub differences: usize,
+    /// Greedy rounds of lists, and single ones.
+    pub held: Held,
+    pub held_single: Held,
     rows: [Row; ROWS.len()],
 }
 
@@ -69,7 +97,7 @@ impl Counts {
         }
     }
 
-    /// A line for each row, then one for all calls of lists.
+    /// A line for each row, one for all calls of lists, and what greedy rounds were held to.
     pub fn lines(&self) -> String {
         let heading = format!(
             "{:24} {:>9} {:>11} {:>9}  refused",
@@ -86,7 +114,29 @@ impl Counts {
             self.matches(),
             self.differences
         );
-        format!("{heading}\n{}\n{lists}", lines.join("\n"))
+        format!(
+            "{heading}\n{}\n{lists}\n{}",
+            lines.join("\n"),
+            self.held_lines()
+        )
+    }
+
+    fn held_lines(&self) -> String {
+        let heading = format!(
+            "{:24} {:>9} {:>10} {:>15}",
+            "hall greedy rounds", "with Rust", "model only", "Rust otherwise"
+        );
+        let line = |name: &str, held: Held| {
+            let Held {
+                rust,
+                model,
+                parted,
+            } = held;
+            format!("{name:24} {rust:>9} {model:>10} {parted:>15}")
+        };
+        let lists = line("hall all of lists", self.held);
+        let single = line("hall single calls", self.held_single);
+        format!("{heading}\n{lists}\n{single}")
     }
 }
 

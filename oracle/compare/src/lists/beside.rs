@@ -1,0 +1,43 @@
+//! Greedy rounds beside the unchanged Rust, which leaves equal distances to the place, and request 2.2 to the longer wait.
+
+use crate::data::{Answer, Call, Columns, Round, Search};
+use crate::families::search::rust_greedy;
+use crate::model::never_falls;
+use crate::same::Same;
+use yilgashe_sys::Hall;
+
+/// What a greedy round was held to.
+#[derive(Clone, Copy, Debug, PartialEq)]
+pub enum Beside {
+    /// Joined times never fall: to the Rust besides the model.
+    Rust,
+    /// They do: to the model alone. Does the Rust answer otherwise?
+    Model { parted: bool },
+}
+
+/// None of a call that is no greedy round, or is refused. An error says how the answer parts from the Rust's where it may not.
+pub fn beside_rust(call: &Call, answer: &Answer, before: &Hall) -> Result<Option<Beside>, String> {
+    let Some((round, columns)) = greedy(call).filter(|_| answer.refusal == 0) else {
+        return Ok(None);
+    };
+    let waiting = before.waiting.waiting();
+    let rust = rust_greedy(waiting, &round.sizes, columns, &round.sheets);
+    let parted = rust.0 != answer.count || !rust.1.same(&answer.sheets);
+    match never_falls(waiting) {
+        true if parted => Err(format!(
+            "joined times never fall, yet the Rust answers otherwise\n  {call:?}\n  Rust: {rust:?}\n  answer: {answer:?}\n  before: {waiting:?}"
+        )),
+        true => Ok(Some(Beside::Rust)),
+        false => Ok(Some(Beside::Model { parted })),
+    }
+}
+
+fn greedy(call: &Call) -> Option<(&Round, &Columns)> {
+    match call {
+        Call::Round(round) => match &round.search {
+            Search::Greedy(columns) => Some((round, columns)),
+            _ => None,
+        },
+        _ => None,
+    }
+}
