@@ -42,6 +42,24 @@ impl Crowd {
         }
     }
 
+    /// Everybody's rating by this rule, in the queue and on the roster alike.
+    pub fn rate(&mut self, rule: fn(f64) -> f64) {
+        let waiting = self.queue.entries.iter_mut().map(|entry| &mut entry.rating);
+        for rating in waiting.chain(&mut self.roster.ratings) {
+            *rating = rule(*rating);
+        }
+    }
+
+    /// The same joined times, in no order of the places.
+    pub fn shuffle_joined(&mut self, rng: &mut Rng) {
+        let waiting = self.queue.waiting().iter();
+        let mut times: Vec<u64> = waiting.map(|entry| entry.joined).collect();
+        rng.shuffle(&mut times);
+        for (entry, time) in self.queue.entries.iter_mut().zip(times) {
+            entry.joined = time;
+        }
+    }
+
     pub fn columns(&self) -> Columns {
         Columns {
             ids: self.roster.ids.clone(),

@@ -5,7 +5,7 @@ use crate::crowd::{CLOCK, Crowd, objective, sheets};
 use crate::rows::{Scene, agreed};
 use compare::data::{Columns, Sheets};
 use compare::rng::Rng;
-use compare::translate::{to_objective, to_teams};
+use compare::translate::{laid_on, to_objective, to_teams};
 use matchlab_core::match_;
 use matchlab_core::rng::SimRng;
 use matchlab_core::world::World;
@@ -82,8 +82,8 @@ impl Call for Beam {
     }
 
     fn agree(&mut self) -> String {
-        let (matches, before) = (self.rust(), self.sheets.clone());
+        let expected = laid_on(&self.sheets, &self.rust());
         let formed = self.library();
-        agreed(&matches, &before, formed, &self.sheets)
+        agreed(expected, formed, &self.sheets)
     }
 }

@@ -10,14 +10,16 @@ pub mod seated;
 use crate::call::Row;
 use compare::data::Sheets;
 use compare::same::Same;
-use compare::translate::laid_on;
-use matchlab_matchmaking::matchmaker::ProposedMatch;
 use std::fmt::{Display, Formatter, Result};
 use yilgashe_sys::{Formed, TeamComposition};
 
 /// The first table, each row made when it is its turn.
 pub const ROWS: &[fn(u64) -> Row] = &[
     |seed| greedy::row(seed, Scene::of(64, (5, 5))).target(5.0),
+    |seed| greedy::alike(seed, Scene::of(64, (5, 5))).target(5.0),
+    |seed| greedy::stepped(seed, Scene::of(64, (5, 5))).target(5.0),
+    |seed| greedy::unordered(seed, Scene::of(64, (5, 5))).target(5.0),
+    |seed| greedy::alike_unordered(seed, Scene::of(64, (5, 5))).target(5.0),
     |seed| beam::row(seed, Scene::of(64, (5, 5)), 32).target(100.0),
     |seed| beam::row(seed, Scene::of(64, (8, 8)), 32).target(100.0),
     |seed| round::row(seed, Scene::of(20, (5, 5))).target(30.0),
@@ -75,11 +77,10 @@ impl Display for Scene {
     }
 }
 
-/// Fails unless the library has laid the Rust's matches on its sheets; says how many.
-fn agreed(matches: &[ProposedMatch], before: &Sheets, formed: Formed, after: &Sheets) -> String {
-    let (count, laid) = laid_on(before, matches);
+/// Fails unless the library has laid the expected matches on its sheets, and as many; says how many.
+fn agreed((count, laid): (usize, Sheets), formed: Formed, after: &Sheets) -> String {
     assert_eq!((formed.refusal, formed.count), (0, count));
-    assert!(laid.same(after), "other matches than the Rust's");
+    assert!(laid.same(after), "other matches than expected");
     format!("{count} formed")
 }
 
@@ -98,6 +99,10 @@ mod tests {
     fn both_sides_agree_and_the_stack_stays_small() {
         let rows = [
             greedy::row(1, Scene::of(64, (5, 5))),
+            greedy::alike(1, Scene::of(64, (5, 5))),
+            greedy::stepped(1, Scene::of(64, (5, 5))),
+            greedy::unordered(1, Scene::of(64, (5, 5))),
+            greedy::alike_unordered(1, Scene::of(64, (5, 5))),
             beam::row(1, Scene::of(18, (8, 8)), 32),
             round::row(1, Scene::of(20, (8, 8))),
             nearest::row(1, Scene::of(64, (5, 5))),
@@ -125,6 +130,6 @@ mod tests {
             sheets(),
         );
         after.players[0] = 1;
-        agreed(&[], &sheets(), formed, &after);
+        agreed((0, sheets()), formed, &after);
     }
 }

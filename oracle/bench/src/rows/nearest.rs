@@ -6,7 +6,7 @@ use crate::rows::{Scene, agreed};
 use compare::data::{Columns, Sheets};
 use compare::model::QUEUE_LIMIT;
 use compare::rng::Rng;
-use compare::translate::{to_queue, to_teams};
+use compare::translate::{laid_on, to_queue, to_teams};
 use matchlab_core::match_;
 use matchlab_core::rng::SimRng;
 use matchlab_core::time::SimTime;
@@ -81,8 +81,8 @@ impl Call for Nearest {
     }
 
     fn agree(&mut self) -> String {
-        let (matches, before) = (self.rust(), self.sheets.clone());
+        let expected = laid_on(&self.sheets, &self.rust());
         let formed = self.library();
-        agreed(&matches, &before, formed, &self.sheets)
+        agreed(expected, formed, &self.sheets)
     }
 }
