@@ -37,7 +37,8 @@ use Rattle.ranking.specs.declared.Ascent.{Ascent}
 use Rattle.ranking.specs.Order.{scoreOf, numbered, ascentOf, risingRule}
 use Rattle.ranking.proofs.Counting.{place-below}
 use Rattle.ranking.proofs.Turning.{length-rising-places, rising-places-below, not-risen}
-use Rattle.ranking.proofs.Places.{placesFrom, places, rankedAt, listed-places, sorted-places}
+use Rattle.ranking.specs.Times.{placesFrom}
+use Rattle.ranking.proofs.Places.{places, rankedAt, listed-places, sorted-places}
 use Rattle.seating.specs.declared.TeamComposition.{TeamComposition}
 use Rattle.seating.specs.Seating.{Sheets, sizesOver, areShort, seatsOf, seats}
 use Rattle.seating.specs.Steps.{overlaid}

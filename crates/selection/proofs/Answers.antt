@@ -16,7 +16,8 @@ use Rattle.base.proofs.Highest.{Tops, highest, Last, last, best-map}
 use Rattle.base.proofs.Sorting.{Permuted, sort-permutes, Sorted, sort-sorts, level, sort-stable, Scored, higher-asym, higher-onward}
 use Rattle.ranking.specs.declared.Ranked.{Ranked}
 use Rattle.ranking.specs.Order.{scoreOf, numbered}
-use Rattle.ranking.proofs.Places.{placesFrom, places, rankedAt, numbered-places, sorted-places, scoreAt, ranked-sound}
+use Rattle.ranking.specs.Times.{placesFrom}
+use Rattle.ranking.proofs.Places.{places, rankedAt, numbered-places, sorted-places, scoreAt, ranked-sound}
 use Rattle.roster.specs.Roster.{Roster, ratingsCheck}
 use Rattle.objective.specs.declared.soft.SoftObjective.{SoftObjective}
 use Rattle.objective.specs.declared.pareto.ObjectiveWeights.{ObjectiveWeights}
