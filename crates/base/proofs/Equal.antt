@@ -98,6 +98,12 @@ eq-lt x y z h k =
     let l = eq-level x y h in
     cases (lt x z) (λ t. t) (λ f. let n = not-lt-trans y x z (l .left) (l .over) f in never cc)
 
+-- and so is what is below its equal
+pub lt-eq : (x y z : Float) → lt x y ≡ true → eq y z ≡ true → lt x z ≡ true
+lt-eq x y z h k =
+    let l = eq-level y z k in
+    cases (lt x z) (λ t. t) (λ f. let n = not-lt-trans x z y (l .right) f (l .over) in never cc)
+
 -- what is not below the one is not below its equal
 pub eq-not-lt : (x y z : Float) → lt x y ≡ false → eq z y ≡ true → lt x z ≡ false
 eq-not-lt x y z h k =

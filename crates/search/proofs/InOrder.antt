@@ -9,17 +9,18 @@ use borrow.Author.Tests.{le-ltb}
 use lib.Ieee.{Float, inf, lt}
 use Rattle.base.specs.Lists.{keep}
 use Rattle.base.proofs.Cases.{cases}
+use Rattle.ranking.specs.Times.{risingFrom, neverFall}
 use Rattle.queue.specs.declared.QueueEntry.{QueueEntry}
 use Rattle.queue.specs.Queue.{isOfAny, withoutAll}
 use Rattle.search.specs.Greedy.{distance, goesBefore, closer, nearest}
-use Rattle.search.specs.LongerWait.{risingFrom, neverFall, closerByPlace, nearestByPlace}
+use Rattle.search.specs.LongerWait.{closerByPlace, nearestByPlace}
 use Rattle.search.proofs.Ties.{before-late}
-use Rattle.search.proofs.Rising.{rising-first}
+use Rattle.ranking.proofs.ByTime.{rising-first}
 
 -- ---- times that never fall
 
 -- when the entries joined
-abbrev joinedBy : List QueueEntry → List ℕ
+abbrev pub joinedBy : List QueueEntry → List ℕ
 joinedBy = map (λ e. e .joined)
 
 -- rising from later on, they rise from earlier on

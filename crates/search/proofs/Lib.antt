@@ -1,7 +1,7 @@
 pub mod Ties
 pub mod Laws
-pub mod Rising
 pub mod Free
+pub mod Runs
 pub mod Plain
 pub mod Seating
 pub mod Picks
@@ -21,6 +21,8 @@ pub mod Scores
 pub mod Standings
 pub mod Drawn
 pub mod InOrder
+pub mod Joining
+pub mod Rows
 pub mod LongerWait
 pub mod Copies
 pub mod BeamCopies

@@ -1,4 +1,4 @@
--- Greedy search as the code goes, with marks by place and running sums, is document 01's greedy search.
+-- Greedy search as the code goes, with marks by place and running sums, is the definition's greedy search.
 use Prim.Native.Nat.{ℕ, zero, suc, _≤_, _<_}
 use mathlib.Core.Path.{_≡_, refl, sym, ap, _∙_, subst}
 use mathlib.Core.Bool.{Bool, true, false, not, cond}
@@ -8,7 +8,7 @@ use native.Mathlib.Omega.{arith}
 use native.Mathlib.Nat.{le-of-suc-le-suc, not-suc-le-zero}
 use borrow.Author.Tests.{le-leb, lt-leb}
 use lib.Dec.{eqb, ltb, leb}
-use lib.Ieee.{Float, nan, inf, binary64, add}
+use lib.Ieee.{Float, nan, inf, binary64, add, lt}
 use lib.ListN.{length, take, getD, replicate}
 use lib.Seq.{take-suc, take-length, getD-take}
 use Rattle.base.specs.Lists.{seek, member, keep, times}
@@ -21,9 +21,9 @@ use Rattle.roster.specs.Roster.{Roster}
 use Rattle.matchmaker.specs.Quality.{sumOf}
 use Rattle.seating.specs.declared.TeamComposition.{TeamComposition}
 use Rattle.search.specs.Turns.{seatsLeft, takesA, grown}
-use Rattle.search.specs.Greedy.{Filling, Search, distance, goesBefore, closer, nearest, rosterRating, opened, picked, ifSome, filled, begun, settled, anchored, greedyMatches}
-use Rattle.search.proofs.Ties.{before-late}
-use Rattle.search.specs.Steps.{Fill, Run, Near, nobodyOf, columns, nearer, struck, marked, opening, picking, filling, closing, anchoring, unmarked, running}
+use Rattle.search.specs.Greedy.{Filling, Search, distance, nearest, rosterRating, opened, picked, ifSome, filled, begun, settled, anchored, greedyMatches}
+use Rattle.search.specs.LongerWait.{closerByPlace, nearestByPlace}
+use Rattle.search.specs.Steps.{Fill, Run, columns, nearer, struck, marked, opening, picking, filling, closing, anchoring, unmarked, running}
 
 -- ---- lists
 
@@ -80,68 +80,66 @@ marks-more p used (q ∷ queue) (suc n) (x ∷ players) (u ∷ us) e h =
 
 -- ---- a pick
 
--- the distance and the joined time of the nearest so far; infinity and 0 where there is none
+-- the distance of the nearest so far; infinity where there is none
 abbrev reach : Float → Option QueueEntry → Float
 reach reference none = inf false
 reach reference (some e) = distance reference (e .rating)
 
-abbrev earliest : Option QueueEntry → ℕ
-earliest none = 0
-earliest (some e) = e .joined
-
--- one more entry is held against these
-closer-by : (reference : Float) (o : Option QueueEntry) (e : QueueEntry) → closer reference o e ≡ cond (goesBefore (distance reference (e .rating)) (e .joined) (reach reference o) (earliest o)) (some e) o
-unfolding closer
-closer-by reference none e = rw (before-late (distance reference (e .rating)) (e .joined) (inf false) 0 (omega arith))
+-- one more entry is held against it
+closer-by : (reference : Float) (o : Option QueueEntry) (e : QueueEntry) → closerByPlace reference o e ≡ cond (lt (distance reference (e .rating)) (reach reference o)) (some e) o
+closer-by reference none e = refl
 closer-by reference (some near) e = refl
 
--- the place, the distance and the joined time that are kept, and the entry that is nearest: there is none, and the place is n; or it is there
-abbrev Kept : List QueueEntry → ℕ → Float → Near → Option QueueEntry → Type 0
-Kept queue n reference b none = (b .place ≡ n) × (b .distance ≡ inf false) × (b .since ≡ 0)
-Kept queue n reference b (some e) = (b .place < n) × (e ≡ getD queue (b .place) noEntry) × (b .distance ≡ distance reference (e .rating)) × (b .since ≡ e .joined)
+-- the place and the distance that are kept, and the entry that is nearest: there is none, and the place is n; or it is there
+abbrev Kept : List QueueEntry → ℕ → Float → ℕ → Float → Option QueueEntry → Type 0
+Kept queue n reference place near none = (place ≡ n) × (near ≡ inf false)
+Kept queue n reference place near (some e) = (place < n) × (e ≡ getD queue place noEntry) × (near ≡ distance reference (e .rating))
 
--- the distance and the joined time kept are those of the nearest so far
-kept-reach : (queue : List QueueEntry) (n : ℕ) (reference : Float) (b : Near) (o : Option QueueEntry) → Kept queue n reference b o → (b .distance ≡ reach reference o) × (b .since ≡ earliest o)
-kept-reach queue n reference b none k = (k .1, k .2)
-kept-reach queue n reference b (some e) k = (k .2, k .3)
+-- the distance kept is that of the nearest so far
+kept-reach : (queue : List QueueEntry) (n : ℕ) (reference : Float) (place : ℕ) (near : Float) (o : Option QueueEntry) → Kept queue n reference place near o → near ≡ reach reference o
+kept-reach queue n reference place near none k = k .1
+kept-reach queue n reference place near (some e) k = k .2
 
-module _ (queue : List QueueEntry) (n : ℕ) (reference : Float) (joined : List ℕ) (ratings : List Float) (us : List Bool) (used : List ℕ) (all : n ≡ length queue) (timed : take n joined ≡ map (λ e. e .joined) queue) (rated : take n ratings ≡ map (λ e. e .rating) queue) (marks : take n us ≡ marks queue used) where
+module _ (queue : List QueueEntry) (n : ℕ) (reference : Float) (ratings : List Float) (us : List Bool) (used : List ℕ) (all : n ≡ length queue) (rated : take n ratings ≡ map (λ e. e .rating) queue) (marks : take n us ≡ marks queue used) where
   -- the entry at one more place
-  kept-on : (i : ℕ) (b : Near) (o : Option QueueEntry) → i < n → Kept queue n reference b o →
-      Kept queue n reference (nearer reference joined ratings us i b) (foldl (closer reference) o (withoutAll used (getD queue i noEntry ∷ [])))
+  kept-on : (i place : ℕ) (near : Float) (o : Option QueueEntry) → i < n → Kept queue n reference place near o →
+      let b = nearer reference ratings us i (record { place = place; distance = near }) in
+      Kept queue n reference (b .place) (b .distance) (foldl (closerByPlace reference) o (withoutAll used (getD queue i noEntry ∷ [])))
   unfolding nearer keep
-  kept-on i b o h k =
+  kept-on i place near o h k =
       let u = column-at (λ e. member (e .player) used) noEntry false us queue n i marks all h in
       let r = column-at (λ e. e .rating) noEntry nan ratings queue n i rated all h in
-      let j = column-at (λ e. e .joined) noEntry 0 joined queue n i timed all h in
-      let e = kept-reach queue n reference b o k in
-      let x = getD queue i noEntry in
-      let g : goesBefore (distance reference (x .rating)) (x .joined) (b .distance) (b .since) ≡ goesBefore (distance reference (x .rating)) (x .joined) (reach reference o) (earliest o) = λ v. goesBefore (distance reference (x .rating)) (x .joined) (e .0 v) (e .1 v) in
-      rw (u, r, j)
-      (cases (member (x .player) used)
+      let e = kept-reach queue n reference place near o k in
+      let l = subst (λ (x : Float). Kept queue n reference place x o) e k in
+      rw (u, r)
+      (cases (member (getD queue i noEntry .player) used)
       (λ t. rw t k)
-      (λ f. rw (f, closer-by reference o x, g)
-      (cases (goesBefore (distance reference (x .rating)) (x .joined) (reach reference o) (earliest o)) (λ t. rw t (h, refl, refl, refl)) (λ t. rw t k))))
+      (λ f. rw (f, closer-by reference o (getD queue i noEntry), e)
+      (cases (lt (distance reference (getD queue i noEntry .rating)) (reach reference o)) (λ t. rw t (h, refl, refl)) (λ g. rw g l))))
 
   -- the entries at the first i places
-  kept-first : (i : ℕ) → i ≤ n → Kept queue n reference (times (nearer reference joined ratings us) (nobodyOf n) i) (foldl (closer reference) none (withoutAll used (take i queue)))
+  kept-first : (i : ℕ) → i ≤ n →
+      let b = times (nearer reference ratings us) (record { place = n; distance = inf false }) i in
+      Kept queue n reference (b .place) (b .distance) (foldl (closerByPlace reference) none (withoutAll used (take i queue)))
   unfolding times keep
-  kept-first zero h = (refl, refl, refl)
+  kept-first zero h = (refl, refl)
   kept-first (suc i) h =
+      let b = times (nearer reference ratings us) (record { place = n; distance = inf false }) i in
       let k : i ≤ n = omega arith in
       let l : i < length queue = omega arith in
       rw (
         take-suc queue i noEntry l,
         keep-append (λ e. not (isOfAny used e)) (take i queue) (getD queue i noEntry ∷ []),
-        fold-append (closer reference) none (withoutAll used (take i queue)) (withoutAll used (getD queue i noEntry ∷ [])),
+        fold-append (closerByPlace reference) none (withoutAll used (take i queue)) (withoutAll used (getD queue i noEntry ∷ [])),
       )
-      (kept-on i (times (nearer reference joined ratings us) (nobodyOf n) i) _ h (kept-first i k))
+      (kept-on i (b .place) (b .distance) _ h (kept-first i k))
 
   -- the place that the code finds is the nearest entry's
-  kept-all : Kept queue n reference (times (nearer reference joined ratings us) (nobodyOf n) n) (nearest reference used queue)
+  kept-all : let b = times (nearer reference ratings us) (record { place = n; distance = inf false }) n in Kept queue n reference (b .place) (b .distance) (nearestByPlace reference used queue)
   kept-all =
+      let b = times (nearer reference ratings us) (record { place = n; distance = inf false }) n in
       let e : take n queue ≡ queue = ap (λ (k : ℕ). take k queue) all ∙ take-length queue in
-      subst (λ (q : List QueueEntry). Kept queue n reference (times (nearer reference joined ratings us) (nobodyOf n) n) (nearest reference used q)) e (kept-first n (omega arith))
+      subst (λ (q : List QueueEntry). Kept queue n reference (b .place) (b .distance) (nearestByPlace reference used q)) e (kept-first n (omega arith))
 
 -- ---- one anchor
 
@@ -149,34 +147,36 @@ module _ (queue : List QueueEntry) (n : ℕ) (reference : Float) (joined : List 
 abbrev view : Roster → List Bool → Filling → Fill
 view r us g = record { used = us; teams = g .teams; sum = sumOf (map (rosterRating r) (g .teams .a .players)); reference = g .reference }
 
-module _ (s : TeamComposition) (r : Roster) (queue : List QueueEntry) (players joined : List ℕ) (ratings rostered : List Float) (n : ℕ) (all : n ≡ length queue) (named : take n players ≡ map (λ e. e .player) queue) (timed : take n joined ≡ map (λ e. e .joined) queue) (rated : take n ratings ≡ map (λ e. e .rating) queue) (placed : take n rostered ≡ map (λ e. rosterRating r (e .player)) queue) where
+-- the definition's queue, and the row that the code's columns are of: the picks from the one are document 01's from the other
+module _ (s : TeamComposition) (r : Roster) (queue row : List QueueEntry) (alike : (reference : Float) (used : List ℕ) → nearest reference used queue ≡ nearestByPlace reference used row)
+    (players : List ℕ) (ratings rostered : List Float) (n : ℕ) (all : n ≡ length row) (named : take n players ≡ map (λ e. e .player) row) (rated : take n ratings ≡ map (λ e. e .rating) row) (placed : take n rostered ≡ map (λ e. rosterRating r (e .player)) row) where
   -- the code's teams are those of the definition, and its marks those of the players used
   record Same (f : Fill) (g : Filling) : Type 0 where
-    marks : take n (f .used) ≡ marks queue (g .used)
+    marks : take n (f .used) ≡ marks row (g .used)
     shown : f ≡ view r (f .used) g
 
   -- what the columns have at a place
-  player-at : (i : ℕ) → i < n → getD players i 0 ≡ getD queue i noEntry .player
-  player-at i h = column-at (λ e. e .player) noEntry 0 players queue n i named all h
+  player-at : (i : ℕ) → i < n → getD players i 0 ≡ getD row i noEntry .player
+  player-at i h = column-at (λ e. e .player) noEntry 0 players row n i named all h
 
-  rating-at : (i : ℕ) → i < n → getD ratings i nan ≡ getD queue i noEntry .rating
-  rating-at i h = column-at (λ e. e .rating) noEntry nan ratings queue n i rated all h
+  rating-at : (i : ℕ) → i < n → getD ratings i nan ≡ getD row i noEntry .rating
+  rating-at i h = column-at (λ e. e .rating) noEntry nan ratings row n i rated all h
 
-  rostered-at : (i : ℕ) → i < n → getD rostered i nan ≡ rosterRating r (getD queue i noEntry .player)
-  rostered-at i h = column-at (λ e. rosterRating r (e .player)) noEntry nan rostered queue n i placed all h
+  rostered-at : (i : ℕ) → i < n → getD rostered i nan ≡ rosterRating r (getD row i noEntry .player)
+  rostered-at i h = column-at (λ e. rosterRating r (e .player)) noEntry nan rostered row n i placed all h
 
   -- the anchor opens the same teams
-  open-same : (us : List Bool) (used : List ℕ) (i : ℕ) → i < n → take n us ≡ marks queue used → Same (opening players ratings rostered us i) (opened used (getD queue i noEntry))
+  open-same : (us : List Bool) (used : List ℕ) (i : ℕ) → i < n → take n us ≡ marks row used → Same (opening (columns players ratings rostered) us i) (opened used (getD row i noEntry))
   open-same us used i h m =
       rw (player-at i h, rating-at i h, rostered-at i h)
-      (record { marks = marks-more (getD queue i noEntry .player) used queue n players us named m; shown = refl })
+      (record { marks = marks-more (getD row i noEntry .player) used row n players us named m; shown = refl })
 
   -- a pick at the entry's place
-  pick-same : (us : List Bool) (g : Filling) (i : ℕ) → i < n → take n us ≡ marks queue (g .used) → Same (picking s players rostered (view r us g) i) (picked s r g (getD queue i noEntry))
+  pick-same : (us : List Bool) (g : Filling) (i : ℕ) → i < n → take n us ≡ marks row (g .used) → Same (picking s players rostered (view r us g) i) (picked s r g (getD row i noEntry))
   unfolding picking grown
   pick-same us g i h m =
-      let p = getD queue i noEntry .player in
-      let k = marks-more p (g .used) queue n players us named m in
+      let p = getD row i noEntry .player in
+      let k = marks-more p (g .used) row n players us named m in
       let e = sum-snoc (rosterRating r) (g .teams .a .players) p in
       rw (player-at i h, rostered-at i h)
       (cases (takesA s (g .teams))
@@ -184,32 +184,31 @@ module _ (s : TeamComposition) (r : Roster) (queue : List QueueEntry) (players j
       (λ t. rw t (cases (ltb (length (g .teams .b .players)) (s .b)) (λ u. rw u (record { marks = k; shown = refl })) (λ u. rw u (record { marks = k; shown = refl })))))
 
   -- one more pick, if there is one, and what comes behind it
-  fill-on : (left : ℕ) → ((f : Fill) (g : Filling) → Same f g → Same (filling s (columns players joined ratings rostered) n left f) (filled s r queue left g)) →
-      (f : Fill) (g : Filling) → Same f g → (b : Near) (o : Option QueueEntry) → Kept queue n (g .reference) b o →
-      Same (cond (leb n (b .place)) f (filling s (columns players joined ratings rostered) n left (picking s players rostered f (b .place)))) (ifSome o (λ e. filled s r queue left (picked s r g e)) g)
-  fill-on left rest f g h b none k = rw (le-leb n (b .place) (omega (arith, k .0))) h
-  fill-on left rest f g h b (some e) k =
-      let place = b .place in
+  fill-on : (left : ℕ) → ((f : Fill) (g : Filling) → Same f g → Same (filling s (columns players ratings rostered) n left f) (filled s r queue left g)) →
+      (f : Fill) (g : Filling) → Same f g → (place : ℕ) (near : Float) (o : Option QueueEntry) → Kept row n (g .reference) place near o →
+      Same (cond (leb n place) f (filling s (columns players ratings rostered) n left (picking s players rostered f place))) (ifSome o (λ e. filled s r queue left (picked s r g e)) g)
+  fill-on left rest f g h place near none k = rw (le-leb n place (omega (arith, k .0))) h
+  fill-on left rest f g h place near (some e) k =
       let l = pick-same (f .used) g place (k .0) (h .marks) in
-      let m = subst (λ (x : Fill). Same (picking s players rostered x place) (picked s r g (getD queue place noEntry))) (sym (h .shown)) l in
-      rw (lt-leb n place (k .0), k .1) (rest (picking s players rostered f place) (picked s r g (getD queue place noEntry)) m)
+      let m = subst (λ (x : Fill). Same (picking s players rostered x place) (picked s r g (getD row place noEntry))) (sym (h .shown)) l in
+      rw (lt-leb n place (k .0), k .1) (rest (picking s players rostered f place) (picked s r g (getD row place noEntry)) m)
 
   -- the picks of an anchor
-  fill-same : (left : ℕ) (f : Fill) (g : Filling) → Same f g → Same (filling s (columns players joined ratings rostered) n left f) (filled s r queue left g)
+  fill-same : (left : ℕ) (f : Fill) (g : Filling) → Same f g → Same (filling s (columns players ratings rostered) n left f) (filled s r queue left g)
   unfolding filling filled
   fill-same zero f g h = h
   fill-same (suc left) f g h =
-      let b = times (nearer (f .reference) joined ratings (f .used)) (nobodyOf n) n in
+      let b = times (nearer (f .reference) ratings (f .used)) (record { place = n; distance = inf false }) n in
       let e : f .reference ≡ g .reference = ap (λ (x : Fill). x .reference) (h .shown) in
-      let k = kept-all queue n (f .reference) joined ratings (f .used) (g .used) all timed rated (h .marks) in
-      let l = subst (λ (x : Float). Kept queue n x b (nearest x (g .used) queue)) e k in
-      fill-on left (fill-same left) f g h b (nearest (g .reference) (g .used) queue) l
+      let k = kept-all row n (f .reference) ratings (f .used) (g .used) all rated (h .marks) in
+      let l = subst (λ (x : Float). Kept row n x (b .place) (b .distance) (nearestByPlace x (g .used) row)) e k in
+      rw (alike (g .reference) (g .used)) (fill-on left (fill-same left) f g h (b .place) (b .distance) (nearestByPlace (g .reference) (g .used) row) l)
 
   -- ---- all anchors
 
   -- the code's matches are those of the definition, and its marks those of the players used
   record Alike (o : Run) (q : Search) : Type 0 where
-    marks : take n (o .used) ≡ marks queue (q .used)
+    marks : take n (o .used) ≡ marks row (q .used)
     formed : o .matches ≡ q .matches
 
   -- the match of an anchor is formed in both or in neither
@@ -219,27 +218,34 @@ module _ (s : TeamComposition) (r : Roster) (queue : List QueueEntry) (players j
       record { marks = h .marks; formed = rw (e, a .formed) }
 
   -- the anchor at one place
-  anchor-alike : (o : Run) (q : Search) (i : ℕ) → i < n → Alike o q → Alike (anchoring s (columns players joined ratings rostered) n i o) (anchored s r queue q (getD queue i noEntry))
+  anchor-alike : (o : Run) (q : Search) (i : ℕ) → i < n → Alike o q → Alike (anchoring s (columns players ratings rostered) n i o) (anchored s r queue q (getD row i noEntry))
   unfolding anchoring anchored
   anchor-alike o q i h a =
-      let u = column-at (λ e. member (e .player) (q .used)) noEntry false (o .used) queue n i (a .marks) all h in
+      let u = column-at (λ e. member (e .player) (q .used)) noEntry false (o .used) row n i (a .marks) all h in
       let k = fill-same (seatsLeft s) _ _ (open-same (o .used) (q .used) i h (a .marks)) in
       let l = close-alike o q _ _ a k in
-      rw u (cases (member (getD queue i noEntry .player) (q .used)) (λ t. rw t a) (λ t. rw t l))
+      rw u (cases (member (getD row i noEntry .player) (q .used)) (λ t. rw t a) (λ t. rw t l))
 
-  -- the anchors at the first i places
-  anchors-alike : length queue ≤ 64 → (i : ℕ) → i ≤ n → Alike (times (anchoring s (columns players joined ratings rostered) n) unmarked i) (foldl (anchored s r queue) begun (take i queue))
+  -- the first i anchors of the queue, each at its place in the row
+  anchors-alike : (turns : List ℕ) → n ≡ length queue → n ≤ 64 → ((i : ℕ) → i < n → (getD turns i 0 < n) × (getD row (getD turns i 0) noEntry ≡ getD queue i noEntry)) → (i : ℕ) → i ≤ n →
+      Alike (times (λ i. anchoring s (columns players ratings rostered) n (getD turns i 0)) unmarked i) (foldl (anchored s r queue) begun (take i queue))
   unfolding times
-  anchors-alike m zero h = record { marks = ap (λ (k : ℕ). take k (replicate 64 false)) all ∙ marks-none queue 64 m; formed = refl }
-  anchors-alike m (suc i) h =
+  anchors-alike turns whole fits at zero h = record { marks = ap (λ (k : ℕ). take k (replicate 64 false)) all ∙ marks-none row 64 (omega arith); formed = refl }
+  anchors-alike turns whole fits at (suc i) h =
       let k : i ≤ n = omega arith in
       let l : i < length queue = omega arith in
-      rw (take-suc queue i noEntry l, fold-append (anchored s r queue) begun (take i queue) (getD queue i noEntry ∷ [])) (anchor-alike _ _ i h (anchors-alike m i k))
+      let t = at i h in
+      rw (take-suc queue i noEntry l, fold-append (anchored s r queue) begun (take i queue) (getD queue i noEntry ∷ []), ← t .1)
+      (anchor-alike _ _ (getD turns i 0) (t .0) (anchors-alike turns whole fits at i k))
 
--- the matches of the code's greedy search over the queue's columns are those of document 01's
-pub greedy-plain : (s : TeamComposition) (r : Roster) (queue : List QueueEntry) (players joined : List ℕ) (ratings rostered : List Float) (n : ℕ) → n ≡ length queue → n ≤ 64 → length players ≡ 64 → length ratings ≡ 64 → length rostered ≡ 64 → take n players ≡ map (λ e. e .player) queue → take n joined ≡ map (λ e. e .joined) queue → take n ratings ≡ map (λ e. e .rating) queue → take n rostered ≡ map (rosterRating r) (take n players) → running s (columns players joined ratings rostered) n unmarked .matches ≡ greedyMatches s r queue
-greedy-plain s r queue players joined ratings rostered n all fits lp lr lo named timed rated placed =
-    let p : take n rostered ≡ map (λ e. rosterRating r (e .player)) queue = placed ∙ ap (map (rosterRating r)) named ∙ map-map (rosterRating r) (λ e. e .player) queue in
-    let a = anchors-alike s r queue players joined ratings rostered n all named timed rated p (omega arith) n (omega arith) in
-    let e : take n queue ≡ queue = ap (λ (k : ℕ). take k queue) all ∙ take-length queue in
+-- the matches of the code's greedy search, over the columns of a row from which document 01's picks are the queue's, with each of the
+-- queue's anchors at its place in the row, are the queue's
+pub greedy-plain : (s : TeamComposition) (r : Roster) (queue row : List QueueEntry) → ((reference : Float) (used : List ℕ) → nearest reference used queue ≡ nearestByPlace reference used row) →
+    (players turns : List ℕ) (ratings rostered : List Float) (n : ℕ) → n ≡ length queue → n ≡ length row → n ≤ 64 → take n players ≡ map (λ e. e .player) row → take n ratings ≡ map (λ e. e .rating) row → take n rostered ≡ map (rosterRating r) (take n players) →
+    ((i : ℕ) → i < n → (getD turns i 0 < n) × (getD row (getD turns i 0) noEntry ≡ getD queue i noEntry)) →
+    running s (columns players ratings rostered) turns n unmarked .matches ≡ greedyMatches s r queue
+greedy-plain s r queue row alike players turns ratings rostered n whole all fits named rated placed at =
+    let p : take n rostered ≡ map (λ e. rosterRating r (e .player)) row = placed ∙ ap (map (rosterRating r)) named ∙ map-map (rosterRating r) (λ e. e .player) row in
+    let a = anchors-alike s r queue row alike players ratings rostered n all named rated p turns whole fits at n (omega arith) in
+    let e : take n queue ≡ queue = ap (λ (k : ℕ). take k queue) whole ∙ take-length queue in
     a .formed ∙ ap (λ (q : List QueueEntry). foldl (anchored s r queue) begun q .matches) e

@@ -7,6 +7,8 @@ use mathlib.Core.Option.{Option, none, some}
 use lib.Dec.{ltb}
 use lib.Ieee.{Float, inf, lt, eq}
 use Rattle.base.specs.Lists.{All}
+use Rattle.base.specs.Ranking.{sortBy}
+use Rattle.ranking.specs.Times.{neverFall}
 use Rattle.queue.specs.declared.QueueEntry.{QueueEntry}
 use Rattle.queue.specs.Queue.{withoutAll}
 use Rattle.search.specs.Greedy.{distance, nearest}
@@ -31,13 +33,9 @@ Picked reference entries (some e) = Foremost reference entries e
 
 -- ---- "queues whose joined times never fall"
 
--- none of these times is before the one in front of it, nor the first before `last`
-unfoldable pub risingFrom : ℕ → List ℕ → Bool
-risingFrom last [] = true
-risingFrom last (x ∷ xs) = cond (ltb x last) false (risingFrom x xs)
-
-abbrev pub neverFall : List ℕ → Bool
-neverFall = risingFrom 0
+-- a queue put in order of joining, those who joined at the same time in their order
+abbrev pub byJoining : List QueueEntry → List QueueEntry
+byJoining = sortBy (λ x y. ltb (x .joined) (y .joined))
 
 -- document 01's pick, which the Rust has: "the strictly smallest distance ..; equal distance takes the earlier entry"
 abbrev pub closerByPlace : Float → Option QueueEntry → QueueEntry → Option QueueEntry
@@ -55,5 +53,7 @@ pub record LongerWait (queue : List QueueEntry) : Type 0 where
   -- which says it all: no two entries, and no two places, are foremost
   pub only : (reference : Float) (used : List ℕ) (e f : QueueEntry) (p : Foremost reference (withoutAll used queue) e) (q : Foremost reference (withoutAll used queue) f) →
       (p .before ≡ q .before) × (e ≡ f)
-  -- in a queue whose joined times never fall it is document 01's pick, so there the Rust can be asked
+  -- it is document 01's pick from the queue put in order of joining
+  pub as-ordered : (reference : Float) (used : List ℕ) → nearest reference used queue ≡ nearestByPlace reference used (byJoining queue)
+  -- so in a queue whose joined times never fall it is document 01's pick, and there the Rust can be asked
   pub in-order : neverFall (map (λ e. e .joined) queue) ≡ true → (reference : Float) (used : List ℕ) → nearest reference used queue ≡ nearestByPlace reference used queue

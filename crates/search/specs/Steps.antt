@@ -1,8 +1,8 @@
 -- Greedy search as the code goes: used marks by place, columns that were read once, running sums. No public contract cites this.
-use Prim.Native.Nat.{ℕ, zero, suc}
+use Prim.Native.Nat.{ℕ, zero, suc, _+_}
 use mathlib.Core.Bool.{Bool, true, false, cond}
 use mathlib.Core.List.{List, [], _∷_, _++_}
-use lib.Dec.{ltb, leb, eqb}
+use lib.Dec.{leb, eqb}
 use lib.Ieee.{Float, nan, inf, binary64, add, sub, neg, lt}
 use lib.ListN.{length, getD, replicate}
 use Rattle.base.specs.Floats as Floats
@@ -10,39 +10,34 @@ use Rattle.base.specs.Lists.{times}
 use Rattle.matchmaker.specs.Quality.{MatchState, matchOf, averageFrom}
 use Rattle.seating.specs.declared.TeamComposition.{TeamComposition}
 use Rattle.search.specs.Turns.{alone, seatsLeft, takesA, grown, complete}
-use Rattle.search.specs.Greedy.{distance, goesBefore}
+use Rattle.search.specs.Greedy.{distance}
 use Rattle.search.specs.declared.greedy.Filling.{Filling}
+use Rattle.search.specs.declared.greedy.Nearest.{Nearest}
 
--- what is read of each place of the queue: the player, the joined time, the entry's rating, the roster's rating or 0.0
+-- what is read of each place of the queue: the player, the entry's rating, the roster's rating or 0.0
 pub record Columns : Type 0 where
   pub players : List ℕ
-  pub joined : List ℕ
   pub ratings : List Float
   pub rostered : List Float
 
-abbrev pub columns : List ℕ → List ℕ → List Float → List Float → Columns
-columns players joined ratings rostered = record { players = players; joined = joined; ratings = ratings; rostered = rostered }
+abbrev pub columns : List ℕ → List Float → List Float → Columns
+columns players ratings rostered = record { players = players; ratings = ratings; rostered = rostered }
 
--- the nearest so far: its place, its distance and its joined time
+-- the nearest so far: its place and its distance
 pub record Near : Type 0 where
   pub place : ℕ
   pub distance : Float
-  pub since : ℕ
 
--- none so far: the place behind the first n, infinity, and 0. Nobody joined before 0, so nothing ties with infinity
-abbrev pub nobodyOf : ℕ → Near
-nobodyOf n = record { place = n; distance = inf false; since = 0 }
-
-unfoldable pub nearer : Float → List ℕ → List Float → List Bool → ℕ → Near → Near
-nearer reference joined ratings used i best =
+unfoldable pub nearer : Float → List Float → List Bool → ℕ → Near → Near
+nearer reference ratings used i best =
     cond (getD used i false) best
-    (cond (goesBefore (distance reference (getD ratings i nan)) (getD joined i 0) (best .distance) (best .since))
-    (record { place = i; distance = distance reference (getD ratings i nan); since = getD joined i 0 })
+    (cond (lt (distance reference (getD ratings i nan)) (best .distance))
+    (record { place = i; distance = distance reference (getD ratings i nan) })
     best)
 
 -- the place of the nearest among the first n, and n where there is none
-abbrev pub nearestPlace : Float → List ℕ → List Float → List Bool → ℕ → ℕ
-nearestPlace reference joined ratings used n = times (nearer reference joined ratings used) (nobodyOf n) n .place
+abbrev pub nearestPlace : Float → List Float → List Bool → ℕ → ℕ
+nearestPlace reference ratings used n = times (nearer reference ratings used) (record { place = n; distance = inf false }) n .place
 
 -- a column with a at every place of the player
 unfoldable pub struck : {A : Type 0} → A → ℕ → List ℕ → List A → List A
@@ -65,25 +60,30 @@ unfoldable pub magnitudeOf : Float → Float
 magnitudeOf x = cond (lt x Floats.zero) (neg x) x
 
 -- of the nearest so far and the place i, by the ratings of those who are free
-unfoldable pub nearerFree : Float → List ℕ → List Float → ℕ → Near → Near
-nearerFree reference joined free i best =
-    cond (goesBefore (magnitudeOf (sub binary64 reference (getD free i nan))) (getD joined i 0) (best .distance) (best .since))
-    (record { place = i; distance = magnitudeOf (sub binary64 reference (getD free i nan)); since = getD joined i 0 })
+unfoldable pub nearerFree : Float → List Float → ℕ → Near → Near
+nearerFree reference free i best =
+    cond (lt (magnitudeOf (sub binary64 reference (getD free i nan))) (best .distance))
+    (record { place = i; distance = magnitudeOf (sub binary64 reference (getD free i nan)) })
     best
 
 -- the place of the nearest among the first n who are free, and n where there is none
-abbrev pub nearestFree : Float → List ℕ → List Float → ℕ → ℕ
-nearestFree reference joined free n = times (nearerFree reference joined free) (nobodyOf n) n .place
+abbrev pub nearestFree : Float → List Float → ℕ → ℕ
+nearestFree reference free n = times (nearerFree reference free) (record { place = n; distance = inf false }) n .place
 
--- the same by distance alone, the earlier place among equals
-unfoldable pub nearerAlone : Float → List Float → ℕ → Near → Near
-nearerAlone reference free i best =
-    cond (lt (magnitudeOf (sub binary64 reference (getD free i nan))) (best .distance))
-    (record { place = i; distance = magnitudeOf (sub binary64 reference (getD free i nan)); since = 0 })
-    best
+-- none so far: the place behind the first n, and infinity
+abbrev pub nobodyOf : ℕ → Near
+nobodyOf n = record { place = n; distance = inf false }
 
-abbrev pub nearestAlone : Float → List Float → ℕ → ℕ
-nearestAlone reference free n = times (nearerAlone reference free) (nobodyOf n) n .place
+abbrev pub nearOf : Nearest → Near
+nearOf b = record { place = b .place; distance = b .distance }
+
+-- the turns of a run that begins at the place start
+abbrev pub nearerFrom : Float → List Float → ℕ → ℕ → Near → Near
+nearerFrom reference free start i = nearerFree reference free (start + i)
+
+-- the nearer of what two runs found, the first's among equals
+unfoldable pub nearerOf : Near → Near → Near
+nearerOf first second = cond (lt (second .distance) (first .distance)) second first
 
 pub record Fill : Type 0 where
   pub used : List Bool
@@ -94,13 +94,13 @@ pub record Fill : Type 0 where
 abbrev pub fillOf : List Bool → Filling → Fill
 fillOf used f = record { used = used; teams = matchOf (f .teams); sum = f .sum; reference = f .reference }
 
-abbrev pub opening : List ℕ → List Float → List Float → List Bool → ℕ → Fill
-opening players ratings rostered used at =
+abbrev pub opening : Columns → List Bool → ℕ → Fill
+opening c used at =
     record {
-      used = marked (getD players at 0) players used;
-      teams = alone (getD players at 0);
-      sum = add binary64 Floats.zero (getD rostered at nan);
-      reference = getD ratings at nan;
+      used = marked (getD (c .players) at 0) (c .players) used;
+      teams = alone (getD (c .players) at 0);
+      sum = add binary64 Floats.zero (getD (c .rostered) at nan);
+      reference = getD (c .ratings) at nan;
     }
 
 -- A's running sum with one more rating
@@ -126,8 +126,8 @@ picking s players rostered f at =
 unfoldable pub filling : TeamComposition → Columns → ℕ → ℕ → Fill → Fill
 filling s c n zero f = f
 filling s c n (suc left) f =
-    cond (leb n (nearestPlace (f .reference) (c .joined) (c .ratings) (f .used) n)) f
-    (filling s c n left (picking s (c .players) (c .rostered) f (nearestPlace (f .reference) (c .joined) (c .ratings) (f .used) n)))
+    cond (leb n (nearestPlace (f .reference) (c .ratings) (f .used) n)) f
+    (filling s c n left (picking s (c .players) (c .rostered) f (nearestPlace (f .reference) (c .ratings) (f .used) n)))
 
 pub record Run : Type 0 where
   pub used : List Bool
@@ -139,12 +139,12 @@ closing s o f = record { used = f .used; matches = cond (complete s (f .teams)) 
 unfoldable pub anchoring : TeamComposition → Columns → ℕ → ℕ → Run → Run
 anchoring s c n at o =
     cond (getD (o .used) at false) o
-    (closing s o (filling s c n (seatsLeft s) (opening (c .players) (c .ratings) (c .rostered) (o .used) at)))
+    (closing s o (filling s c n (seatsLeft s) (opening c (o .used) at)))
 
 -- nobody is used, and nothing formed
 abbrev pub unmarked : Run
 unmarked = record { used = replicate 64 false; matches = [] }
 
--- the anchors at the first n places, one after another
-abbrev pub running : TeamComposition → Columns → ℕ → Run → Run
-running s c n o = times (anchoring s c n) o n
+-- n anchors, one after another, each at its place
+abbrev pub running : TeamComposition → Columns → List ℕ → ℕ → Run → Run
+running s c turns n o = times (λ i. anchoring s c n (getD turns i 0)) o n

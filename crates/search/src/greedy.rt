@@ -7,12 +7,12 @@ ghost use lib.ListN.{length, take, getD};
 ghost use mathlib.Core.Option.{Option·getD};
 ghost use Rattle.base.specs.Floats as Floats;
 ghost use Rattle.base.specs.Refusals.{checkedOf};
-ghost use Rattle.queue.specs.Queue.{queueOf};
+ghost use Rattle.base.specs.Lists.{All};
+ghost use Rattle.queue.specs.Queue.{queueOf, noEntry};
 ghost use Rattle.roster.specs.Roster.{ofRatings, observedOf};
 ghost use Rattle.seating.specs.Seating.{Sheets, matchesOf, gathered, leaving};
-ghost use Rattle.search.specs.Greedy.{goesBefore, rosterRating, greedyMatches, greedyCheck, greedyRule};
-ghost use Rattle.search.specs.LongerWait.{neverFall};
-ghost use Rattle.search.specs.Steps.{columns, magnitudeOf, nearestFree, nearestAlone, struck, marked, freeOf, fillOf, opening, picking, filling, running, unmarked};
+ghost use Rattle.search.specs.Greedy.{rosterRating, greedyMatches, greedyCheck, greedyRule};
+ghost use Rattle.search.specs.Steps.{columns, magnitudeOf, nearOf, nearerFree, nearerOf, nearestFree, struck, marked, freeOf, fillOf, opening, picking, filling, running, unmarked};
 ghost use Rattle.search.specs.Turns.{seatsLeft};
 use base::Checked;
 use base::Refusal;
@@ -22,6 +22,12 @@ use roster::Observed;
 use seating::Formed;
 use seating::Matches;
 use seating::TeamComposition;
+
+// The nearest so far: its place and its distance.
+pub struct Nearest {
+    pub place: usize,
+    pub distance: f64,
+}
 
 // The teams of an anchor while they fill, with A's running sum and the reference rating.
 pub struct Filling {
@@ -104,105 +110,54 @@ fn magnitude(x: f64) -> f64
     x
 }
 
-// Is the distance smaller, or equal and the joined time earlier?
-fn goes_before(distance: f64, joined: u64, near: f64, since: u64) -> bool
-    ensures { λ r. ⌜ r ≡ goesBefore distance joined near since ⌝ }
+// The nearest so far, and the place i if that is nearer.
+fn nearer(reference: f64, free: &[f64; 64], i: usize, best: Nearest) -> Nearest
+    requires { ⌜ i < 64 ⌝ }
+    ensures { λ r. ⌜ nearOf r ≡ nearerFree reference (now (free .entry)) i (nearOf best) ⌝ }
 {
-    if distance < near {
-        return true;
+    let distance = magnitude(reference - free[i]);
+    if distance < best.distance {
+        return Nearest {
+            place: i,
+            distance: distance,
+        };
     }
-    if distance == near {
-        return joined < since;
-    }
-    false
+    best
 }
 
-// Do the joined times of the first n never fall?
-fn never_falls(joined: &[u64; 64], n: usize) -> bool
-    requires { ⌜ n ≤ 64 ⌝ }
-    requires { ⌜ length (now joined) ≡ 64 ⌝ }
-    ensures { λ r. ⌜ r ≡ neverFall (take n (now (joined .entry))) ⌝ }
+// The place of the nearer of two, the first's among equals.
+fn nearer_place(first: Nearest, second: Nearest) -> usize
+    ensures { λ r. ⌜ r ≡ nearerOf (nearOf first) (nearOf second) .place ⌝ }
 {
-    let mut last: u64 = 0;
+    if second.distance < first.distance {
+        return second.place;
+    }
+    first.place
+}
+
+// The place of the nearest among the first n who are free, or n. Where somebody is used the rating is NaN, so it is never below.
+// Each half has a run of its own, in one pass: a comparison waits only for the one before it in its run.
+fn pick_nearest(reference: f64, free: &[f64; 64], n: usize) -> usize
+    requires { ⌜ n ≤ 64 ⌝ }
+    ensures { λ r. ⌜ r ≡ nearestFree reference (now (free .entry)) n ⌝ }
+{
+    let half = n / 2;
+    let nobody = Nearest {
+        place: n,
+        distance: 1.0 / 0.0,
+    };
+    let mut first = nobody;
+    let mut second = nobody;
     let mut i: usize = 0;
-    while i < n {
-        if joined[i] < last {
-            return false;
-        }
-        last = joined[i];
+    while i < half {
+        first = nearer(reference, free, i, first);
+        second = nearer(reference, free, half + i, second);
         i += 1;
     }
-    true
-}
-
-// The place of the nearest among the first n who are free, the earlier of equals, or n.
-fn pick_first(reference: f64, free: &[f64; 64], n: usize) -> usize
-    requires { ⌜ n ≤ 64 ⌝ }
-    ensures { λ r. ⌜ r ≡ nearestAlone reference (now (free .entry)) n ⌝ }
-{
-    let mut best = n;
-    let mut smallest = 1.0 / 0.0;
-    let mut i: usize = 0;
-    while i < n {
-        let distance = magnitude(reference - free[i]);
-        if distance < smallest {
-            best = i;
-            smallest = distance;
-            i += 1;
-        } else {
-            i += 1;
-        }
+    if half + half < n {
+        return nearer_place(first, nearer(reference, free, n - 1, second));
     }
-    best
-}
-
-// The place of the nearest among the first n who are free, or n; of equal distances the earlier joined time, then the earlier
-// place. Where somebody is used the rating is NaN, so it is never below and never equal; nobody joined before 0, so nothing ties
-// with infinity. The joined time is read only behind the first test: so that test stays a branch, seldom taken, and the loop as fast
-// as without ties.
-fn pick_tied(reference: f64, joined: &[u64; 64], free: &[f64; 64], n: usize) -> usize
-    requires { ⌜ n ≤ 64 ⌝ }
-    ensures { λ r. ⌜ r ≡ nearestFree reference (now (joined .entry)) (now (free .entry)) n ⌝ }
-{
-    let mut best = n;
-    let mut smallest = 1.0 / 0.0;
-    let mut since: u64 = 0;
-    let mut i: usize = 0;
-    while i < n {
-        let distance = magnitude(reference - free[i]);
-        if distance <= smallest {
-            if goes_before(distance, joined[i], smallest, since) {
-                best = i;
-                smallest = distance;
-                since = joined[i];
-                i += 1;
-            } else {
-                i += 1;
-            }
-        } else {
-            i += 1;
-        }
-    }
-    best
-}
-
-// The same; where the joined times never fall, ties need no look.
-fn pick_nearest(
-    ordered: bool,
-    reference: f64,
-    joined: &[u64; 64],
-    free: &[f64; 64],
-    n: usize,
-) -> usize
-    requires { ⌜ n ≤ 64 ⌝ }
-    requires { ⌜ ordered ≡ neverFall (take n (now joined)) ⌝ }
-    requires { ⌜ length (now joined) ≡ 64 ⌝ }
-    ensures { λ r. ⌜ r ≡ nearestFree reference (now (joined .entry)) (now (free .entry)) n ⌝ }
-{
-    if ordered {
-        return pick_first(reference, free, n);
-    }
-    pick_tied(reference, joined, free, n)
+    nearer_place(first, second)
 }
 
 // Every place of the player is used, and free no longer.
@@ -239,7 +194,7 @@ fn open(
     requires { ⌜ length (now players) ≡ 64 ⌝ }
     requires { ⌜ length (now used) ≡ 64 ⌝ }
     requires { ⌜ length (now free) ≡ 64 ⌝ }
-    ensures { λ r. ⌜ fillOf (now (used .exit)) r ≡ opening (now (players .entry)) (now (ratings .entry)) (now (rostered .entry)) (now (used .entry)) at ⌝ }
+    ensures { λ r. ⌜ fillOf (now (used .exit)) r ≡ opening (columns (now (players .entry)) (now (ratings .entry)) (now (rostered .entry))) (now (used .entry)) at ⌝ }
     ensures { λ _. ⌜ now (free .exit) ≡ struck nan (getD (now (players .entry)) at 0) (now (players .entry)) (now (free .entry)) ⌝ }
 {
     let player = players[at];
@@ -292,8 +247,6 @@ fn pick(
 fn fill(
     sizes: TeamComposition,
     players: &[u64; 64],
-    joined: &[u64; 64],
-    ordered: bool,
     ratings: &[f64; 64],
     rostered: &[f64; 64],
     n: usize,
@@ -306,16 +259,14 @@ fn fill(
     requires { ⌜ length (now ratings) ≡ 64 ⌝ }
     requires { ⌜ length (now used) ≡ 64 ⌝ }
     requires { ⌜ now free ≡ freeOf (now ratings) (now used) ⌝ }
-    requires { ⌜ ordered ≡ neverFall (take n (now joined)) ⌝ }
-    requires { ⌜ length (now joined) ≡ 64 ⌝ }
-    ensures { λ r. ⌜ fillOf (now (used .exit)) r ≡ filling sizes (columns (now (players .entry)) (now (joined .entry)) (now (ratings .entry)) (now (rostered .entry))) n (seatsLeft sizes) (opening (now (players .entry)) (now (ratings .entry)) (now (rostered .entry)) (now (used .entry)) at) ⌝ }
+    ensures { λ r. ⌜ fillOf (now (used .exit)) r ≡ filling sizes (columns (now (players .entry)) (now (ratings .entry)) (now (rostered .entry))) n (seatsLeft sizes) (opening (columns (now (players .entry)) (now (ratings .entry)) (now (rostered .entry))) (now (used .entry)) at) ⌝ }
     ensures { λ _. ⌜ length (now (used .exit)) ≡ 64 ⌝ }
     ensures { λ _. ⌜ now (free .exit) ≡ freeOf (now (ratings .entry)) (now (used .exit)) ⌝ }
 {
     let mut out = open(players, ratings, rostered, used, free, at);
     let mut left = crate::seats_left(sizes);
     while 0 < left {
-        let next = pick_nearest(ordered, out.reference, joined, free, n);
+        let next = pick_nearest(out.reference, free, n);
         if n <= next {
             return out;
         }
@@ -327,42 +278,40 @@ fn fill(
 
 // ---- all anchors
 
-// The matches of the anchors at the first n places.
+// The matches of n anchors, each at its place in the columns.
 fn match_all(
     sizes: TeamComposition,
     players: &[u64; 64],
-    joined: &[u64; 64],
     ratings: &[f64; 64],
     rostered: &[f64; 64],
+    turns: &[usize; 64],
     n: usize,
 ) -> Matches
     requires { ⌜ (sizes .a ≤ 8) × ((sizes .b ≤ 8) × (n ≤ 64)) ⌝ }
     requires { ⌜ length (now players) ≡ 64 ⌝ }
     requires { ⌜ length (now ratings) ≡ 64 ⌝ }
-    requires { ⌜ length (now joined) ≡ 64 ⌝ }
-    ensures { λ r. ⌜ matchesOf r ≡ gathered (running sizes (columns (now (players .entry)) (now (joined .entry)) (now (ratings .entry)) (now (rostered .entry))) n unmarked .matches) ⌝ }
+    requires { ⌜ (length (now turns) ≡ 64) × All (λ p. p < n) (take n (now turns)) ⌝ }
+    ensures { λ r. ⌜ matchesOf r ≡ gathered (running sizes (columns (now (players .entry)) (now (ratings .entry)) (now (rostered .entry))) (now (turns .entry)) n unmarked .matches) ⌝ }
 {
-    let ordered = never_falls(joined, n);
     let mut used = [false; 64];
     let mut free = *ratings;
     let mut items = [crate::opened(0); 64];
     let mut len: usize = 0;
     let mut i: usize = 0;
     while i < n {
-        if used[i] {
+        let at = turns[i];
+        if used[at] {
             i += 1;
         } else {
             let filled = fill(
                 sizes,
                 players,
-                joined,
-                ordered,
                 ratings,
                 rostered,
                 n,
                 &mut used,
                 &mut free,
-                i,
+                at,
             );
             let teams = filled.teams;
             if crate::is_complete(sizes, teams) {
@@ -380,17 +329,41 @@ fn match_all(
     }
 }
 
-// The matches of the queue.
+// The queue with its entries in the order of some places.
+fn arranged(queue: Queue, places: [usize; 64]) -> Queue
+    requires { ⌜ queue .len ≤ 64 ⌝ }
+    requires { ⌜ All (λ p. p < queue .len) (take (queue .len) places) ⌝ }
+    ensures { λ r. ⌜ (r .len ≡ queue .len) × (queueOf r .entries ≡ map (λ p. getD (queueOf queue .entries) p noEntry) (take (queue .len) places)) ⌝ }
+{
+    let entries = queue.entries;
+    let n = queue.len;
+    let mut out = entries;
+    let mut k: usize = 0;
+    while k < n {
+        out[k] = entries[places[k]];
+        k += 1;
+    }
+    Queue {
+        entries: out,
+        len: n,
+    }
+}
+
+// The matches of the queue. In order of joining the earlier place of equal distances is the earlier joined time, so picks are made
+// there; the anchors keep the queue's order.
 pub(crate) fn matches(sizes: TeamComposition, queue: Queue, ids: &[u64], ratings: &[f64]) -> Matches
     requires { ⌜ (sizes .a ≤ 8) × ((sizes .b ≤ 8) × (queue .len ≤ 64)) ⌝ }
     ensures { λ r. ⌜ matchesOf r ≡ gathered (greedyMatches sizes (ofRatings (now (ids .entry)) (now (ratings .entry))) (queueOf queue .entries)) ⌝ }
 {
     let n = queue.len;
-    let players = crate::players_of(queue);
-    let joined = joined_of(queue);
-    let entered = ratings_of(queue);
+    let order = ranking::times::by_time(joined_of(queue), n);
+    let places = order.places;
+    let row = arranged(queue, places);
+    let players = crate::players_of(row);
+    let entered = ratings_of(row);
     let rostered = rostered_of(&players, n, ids, ratings);
-    match_all(sizes, &players, &joined, &entered, &rostered, n)
+    let turns = order.stands;
+    match_all(sizes, &players, &entered, &rostered, &turns, n)
 }
 
 // Refusals 1, 2, 3 and 4 of what a search is given.
