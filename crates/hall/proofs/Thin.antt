@@ -1,6 +1,6 @@
 -- Resends change nothing, so any of them may be left out.
 use mathlib.Core.Path.{_≡_, refl, sym}
-use mathlib.Core.Bool.{Bool, true, false, _&&_}
+use mathlib.Core.Bool.{Bool, true, _&&_}
 use mathlib.Core.List.{List, [], _∷_, map-append}
 use Rattle.base.proofs.Cases.{cases, never}
 use Rattle.base.proofs.Checks.{both-hold}

@@ -12,7 +12,7 @@ use Rattle.base.proofs.Cases.{cases}
 use Rattle.ranking.specs.Times.{risingFrom, neverFall}
 use Rattle.queue.specs.declared.QueueEntry.{QueueEntry}
 use Rattle.queue.specs.Queue.{isOfAny, withoutAll}
-use Rattle.search.specs.Greedy.{distance, goesBefore, closer, nearest}
+use Rattle.search.specs.Greedy.{distance, closer, nearest}
 use Rattle.search.specs.LongerWait.{closerByPlace, nearestByPlace}
 use Rattle.search.proofs.Ties.{before-late}
 use Rattle.ranking.proofs.ByTime.{rising-first}

@@ -15,7 +15,7 @@ use Rattle.base.proofs.Cases.{cases, never}
 use Rattle.base.proofs.Sorting.{Sorted, First, sorted-inserted, sort-sorts}
 use Rattle.ranking.specs.Times.{risingFrom, neverFall}
 use Rattle.queue.specs.declared.QueueEntry.{QueueEntry}
-use Rattle.queue.specs.Queue.{isOfAny, withoutAll}
+use Rattle.queue.specs.Queue.{isOfAny}
 use Rattle.search.specs.Greedy.{distance, goesBefore, closer, nearest}
 use Rattle.search.specs.LongerWait.{byJoining, nearestByPlace}
 use Rattle.search.proofs.Ties.{before-late, before-number, before-trans, before-one}

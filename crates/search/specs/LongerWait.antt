@@ -1,8 +1,8 @@
 -- Document 02, 2.2, "Equal distance goes to the longer wait": one statement over the picks from any list of entries.
 use Prim.Native.Nat.{ℕ, _≤_, _<_}
 use mathlib.Core.Path.{_≡_}
-use mathlib.Core.Bool.{Bool, true, false, cond}
-use mathlib.Core.List.{List, [], _∷_, _++_, map, foldl}
+use mathlib.Core.Bool.{true, false, cond}
+use mathlib.Core.List.{List, _∷_, _++_, map, foldl}
 use mathlib.Core.Option.{Option, none, some}
 use lib.Dec.{ltb}
 use lib.Ieee.{Float, inf, lt, eq}
@@ -31,19 +31,19 @@ abbrev pub Picked : Float → List QueueEntry → Option QueueEntry → Type 0
 Picked reference entries none = All (λ x. lt (distance reference (x .rating)) (inf false) ≡ false) entries
 Picked reference entries (some e) = Foremost reference entries e
 
--- ---- "queues whose joined times never fall"
+-- ---- document 01's pick, which the Rust has
 
--- a queue put in order of joining, those who joined at the same time in their order
-abbrev pub byJoining : List QueueEntry → List QueueEntry
-byJoining = sortBy (λ x y. ltb (x .joined) (y .joined))
-
--- document 01's pick, which the Rust has: "the strictly smallest distance ..; equal distance takes the earlier entry"
+-- "the strictly smallest distance ..; equal distance takes the earlier entry"
 abbrev pub closerByPlace : Float → Option QueueEntry → QueueEntry → Option QueueEntry
 closerByPlace reference none e = cond (lt (distance reference (e .rating)) (inf false)) (some e) none
 closerByPlace reference (some near) e = cond (lt (distance reference (e .rating)) (distance reference (near .rating))) (some e) (some near)
 
 abbrev pub nearestByPlace : Float → List ℕ → List QueueEntry → Option QueueEntry
 nearestByPlace reference used queue = foldl (closerByPlace reference) none (withoutAll used queue)
+
+-- a queue put in order of joining, those who joined at the same time in their order
+abbrev pub byJoining : List QueueEntry → List QueueEntry
+byJoining = sortBy (λ x y. ltb (x .joined) (y .joined))
 
 -- ---- the statement
 
@@ -55,5 +55,5 @@ pub record LongerWait (queue : List QueueEntry) : Type 0 where
       (p .before ≡ q .before) × (e ≡ f)
   -- it is document 01's pick from the queue put in order of joining
   pub as-ordered : (reference : Float) (used : List ℕ) → nearest reference used queue ≡ nearestByPlace reference used (byJoining queue)
-  -- so in a queue whose joined times never fall it is document 01's pick, and there the Rust can be asked
+  -- so in "queues whose joined times never fall" it is document 01's pick, and there the Rust can be asked
   pub in-order : neverFall (map (λ e. e .joined) queue) ≡ true → (reference : Float) (used : List ℕ) → nearest reference used queue ≡ nearestByPlace reference used queue
