@@ -92,19 +92,19 @@ eq-trans x y z h k =
     let t = level-trans x y z (l .right) (l .under, l .over) (m .under, m .over) in
     level-eq x z (record { left = l .left; right = m .right; under = t .0; over = t .1 })
 
--- what is equal to one below z is below z
+-- what is equal to one that is below z is below z
 pub eq-lt : (x y z : Float) → eq x y ≡ true → lt y z ≡ true → lt x z ≡ true
 eq-lt x y z h k =
     let l = eq-level x y h in
     cases (lt x z) (λ t. t) (λ f. let n = not-lt-trans y x z (l .left) (l .over) f in never cc)
 
--- and so is what is below its equal
+-- what is below one that is equal to z is below z
 pub lt-eq : (x y z : Float) → lt x y ≡ true → eq y z ≡ true → lt x z ≡ true
 lt-eq x y z h k =
     let l = eq-level y z k in
     cases (lt x z) (λ t. t) (λ f. let n = not-lt-trans x z y (l .right) f (l .over) in never cc)
 
--- what is not below the one is not below its equal
+-- what is not below one that is equal to z is not below z
 pub eq-not-lt : (x y z : Float) → lt x y ≡ false → eq z y ≡ true → lt x z ≡ false
 eq-not-lt x y z h k =
     let l = eq-level z y k in

@@ -170,7 +170,8 @@ Holds (pick reference queue e) = nearest reference [] queue ≡ some e
 -- "Exhaustive 1+1 of guests 1, 2, 3: (1,2), (1,3), (2,3)." "Full round on those, wait objective only: (2,3), tried 3."
 -- "Booking key 7 guest 1 accepted; again: accepted, one waiting; key 7 guest 2: 7; key 8 guest 1: 9."
 -- "Reference 1000, entries 1010 then 990: 1010."; document 02, 2.2: "the case of 1010 then 990 has equal" joined times. Where the one of
--- 990 joined earlier it goes first; a nearer one goes first whenever it joined; a rating of NaN or infinity never. The beam of width 4 is no line of the paper, but tells wrong turns apart. Nor is
+-- 990 joined earlier it goes first; a nearer one goes first whenever it joined; a rating of NaN or infinity never.
+-- The beam of width 4 is no line of the paper, but tells wrong turns apart. Nor is
 -- the story: a phone resends two bookings after a withdrawal and a round, among guests who are rated alike. Each gets the answer that
 -- it got, nobody waits for it, and no table is played one short; without the resends all else is the same.
 abbrev pub lines : List Line

@@ -33,11 +33,13 @@ module _ (reference : Float) where
   beats x none = goesBefore (far x) (x .joined) (inf false) 0
   beats x (some near) = goesBefore (far x) (x .joined) (far near) (near .joined)
 
+  -- one that does takes its place
   closer-takes : (o : Option QueueEntry) (x : QueueEntry) → beats x o ≡ true → closer reference o x ≡ some x
   unfolding closer
   closer-takes none x h = rw (sym (before-late (far x) (x .joined) (inf false) 0 (omega arith)) ∙ h)
   closer-takes (some near) x h = rw h
 
+  -- one that doesn't leaves it there
   closer-stays : (o : Option QueueEntry) (x : QueueEntry) → beats x o ≡ false → closer reference o x ≡ o
   unfolding closer
   closer-stays none x h = rw (sym (before-late (far x) (x .joined) (inf false) 0 (omega arith)) ∙ h)
@@ -48,6 +50,7 @@ module _ (reference : Float) where
   beats-on none x y h k = before-trans (far y) (far x) (inf false) (y .joined) (x .joined) 0 h k
   beats-on (some near) x y h k = before-trans (far y) (far x) (far near) (y .joined) (x .joined) (near .joined) h k
 
+  -- who beats anybody is at a distance that is a number
   beats-number : (o : Option QueueEntry) (x : QueueEntry) → beats x o ≡ true → far x ≡ nan → ⊥
   beats-number none x h = before-number (far x) (x .joined) (inf false) 0 h
   beats-number (some near) x h = before-number (far x) (x .joined) (far near) (near .joined) h
@@ -80,9 +83,11 @@ module _ (reference : Float) where
 abbrev earlier : QueueEntry → QueueEntry → Bool
 earlier x y = ltb (x .joined) (y .joined)
 
+-- of two not both joined before the other
 earlier-asym : (x y : QueueEntry) → earlier x y ≡ true → earlier y x ≡ false
 earlier-asym x y h = le-ltb (y .joined) (x .joined) (let k = ltb-true (x .joined) (y .joined) h in omega arith)
 
+-- who did not join before one who did not join before a third did not join before that
 earlier-onward : (x y z : QueueEntry) → Unit {0} → earlier x y ≡ false → earlier y z ≡ false → earlier x z ≡ false
 earlier-onward x y z u h k =
     le-ltb (x .joined) (z .joined) (let g = ltb-false (x .joined) (y .joined) h in let l = ltb-false (y .joined) (z .joined) k in omega arith)
@@ -101,11 +106,13 @@ module _ (reference : Float) (p : QueueEntry → Bool) where
   abbrev looked : Option QueueEntry → QueueEntry → Option QueueEntry
   looked o x = cond (p x) (closer reference o x) o
 
+  -- that is a look at those whom p keeps
   looked-keep : (es : List QueueEntry) (o : Option QueueEntry) → foldl (closer reference) o (keep p es) ≡ foldl looked o es
   unfolding keep
   looked-keep [] o = refl
   looked-keep (e ∷ es) o = cases (p e) (λ t. rw t (looked-keep es (closer reference o e))) (λ f. rw f (looked-keep es o))
 
+  -- two who joined at different times are looked at in either order
   looked-swap : (o : Option QueueEntry) (x y : QueueEntry) → (x .joined ≡ y .joined → ⊥) → looked (looked o x) y ≡ looked (looked o y) x
   looked-swap o x y d =
       cases (p x)
@@ -127,6 +134,7 @@ module _ (reference : Float) (p : QueueEntry → Bool) where
       (λ t. rw t (let h = ltb-true (x .joined) (y .joined) t in looked-last x (y ∷ ys) o (h, all-later x y ys h (s .0))))
       (λ f. rw f (looked-inserted x ys (looked o y) (s .1)))
 
+  -- and all who are put into it one after another as they come
   looked-sorted : (es b : List QueueEntry) (o : Option QueueEntry) → Sorted earlier b → foldl looked o (foldl (λ (sorted : List QueueEntry) x. insertBy earlier x sorted) b es) ≡ foldl looked (foldl looked o b) es
   looked-sorted [] b o s = refl
   looked-sorted (e ∷ es) b o s =
@@ -147,6 +155,7 @@ sorted-rising last (e ∷ es) a s =
     rw (le-ltb (e .joined) last (a .0))
     (sorted-rising (e .joined) es (all-so (λ z. earlier z e ≡ false) (λ z. e .joined ≤ z .joined) (λ z f. ltb-false (z .joined) (e .joined) f) es (s .0)) (s .1))
 
+-- so the order of joining doesn't
 joining-rises : (queue : List QueueEntry) → neverFall (joinedBy (byJoining queue)) ≡ true
 joining-rises queue =
     sorted-rising 0 (byJoining queue) (all-least (byJoining queue)) (sort-sorts earlier (λ x. Unit {0}) earlier-asym earlier-onward queue (all-sound queue))
@@ -155,5 +164,6 @@ joining-rises queue =
     all-least [] = tt
     all-least (e ∷ es) = (omega arith, all-least es)
 
+-- there the pick is document 01's
 pub as-ordered : (queue : List QueueEntry) (reference : Float) (used : List ℕ) → nearest reference used queue ≡ nearestByPlace reference used (byJoining queue)
 as-ordered queue reference used = nearest-joining reference used queue ∙ in-order (byJoining queue) (joining-rises queue) reference used
