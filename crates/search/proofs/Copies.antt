@@ -9,7 +9,7 @@ use lib.Ieee.{Float, inf, lt, eq}
 use Rattle.base.specs.Lists.{keep, member, Within, All}
 use Rattle.base.proofs.Cases.{cases}
 use Rattle.base.proofs.Loops.{fold-append, keep-append}
-use Rattle.base.proofs.Members.{within-tail, within-self}
+use Rattle.base.proofs.Members.{all-both, within-tail, within-self}
 use Rattle.queue.specs.declared.QueueEntry.{QueueEntry}
 use Rattle.queue.specs.Queue.{isOfAny, withoutAll}
 use Rattle.roster.specs.Roster.{Roster}
@@ -23,11 +23,6 @@ use Rattle.search.proofs.Picks.{nearest-picked}
 use Rattle.search.proofs.Seating.{all-so, all-middle, member-within, within-trans}
 
 -- ---- a pick
-
--- what holds of all, and what else does, both hold of all
-all-both : {A : Type 0} (P Q : A → Type 0) (xs : List A) → All P xs → All Q xs → All (λ x. P x × Q x) xs
-all-both P Q [] a b = tt
-all-both P Q (x ∷ xs) a b = ((a .0, b .0), all-both P Q xs (a .1) (b .1))
 
 module _ (reference : Float) where
   abbrev far : QueueEntry → Float

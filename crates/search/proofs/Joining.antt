@@ -12,7 +12,7 @@ use lib.Ieee.{Float, nan, inf}
 use Rattle.base.specs.Lists.{All, keep}
 use Rattle.base.specs.Ranking.{insertBy}
 use Rattle.base.proofs.Cases.{cases, never}
-use Rattle.base.proofs.Sorting.{Sorted, First, sorted-inserted, sort-sorts}
+use Rattle.base.proofs.Sorting.{Sorted, First, sorted-inserted, sort-sorts, all-sound, number-asym, number-onward}
 use Rattle.ranking.specs.Times.{risingFrom, neverFall}
 use Rattle.queue.specs.declared.QueueEntry.{QueueEntry}
 use Rattle.queue.specs.Queue.{isOfAny}
@@ -83,20 +83,6 @@ module _ (reference : Float) where
 abbrev earlier : QueueEntry → QueueEntry → Bool
 earlier x y = ltb (x .joined) (y .joined)
 
--- of two not both joined before the other
-earlier-asym : (x y : QueueEntry) → earlier x y ≡ true → earlier y x ≡ false
-earlier-asym x y h = le-ltb (y .joined) (x .joined) (let k = ltb-true (x .joined) (y .joined) h in omega arith)
-
--- who did not join before one who did not join before a third did not join before that
-earlier-onward : (x y z : QueueEntry) → Unit {0} → earlier x y ≡ false → earlier y z ≡ false → earlier x z ≡ false
-earlier-onward x y z u h k =
-    le-ltb (x .joined) (z .joined) (let g = ltb-false (x .joined) (y .joined) h in let l = ltb-false (y .joined) (z .joined) k in omega arith)
-
--- nothing is asked of an entry
-all-sound : (es : List QueueEntry) → All (λ e. Unit {0}) es
-all-sound [] = tt
-all-sound (e ∷ es) = (tt, all-sound es)
-
 -- what comes behind one that joined later than x joined later than x
 all-later : (x y : QueueEntry) (es : List QueueEntry) → x .joined < y .joined → First earlier y es → All (λ z. x .joined < z .joined) es
 all-later x y es h a = all-so (λ z. earlier z y ≡ false) (λ z. x .joined < z .joined) (λ z f. let k = ltb-false (z .joined) (y .joined) f in omega arith) es a
@@ -138,7 +124,7 @@ module _ (reference : Float) (p : QueueEntry → Bool) where
   looked-sorted : (es b : List QueueEntry) (o : Option QueueEntry) → Sorted earlier b → foldl looked o (foldl (λ (sorted : List QueueEntry) x. insertBy earlier x sorted) b es) ≡ foldl looked (foldl looked o b) es
   looked-sorted [] b o s = refl
   looked-sorted (e ∷ es) b o s =
-      looked-sorted es (insertBy earlier e b) o (sorted-inserted earlier (λ x. Unit {0}) earlier-asym earlier-onward e b (all-sound b) s)
+      looked-sorted es (insertBy earlier e b) o (sorted-inserted earlier (λ x. Unit {0}) (number-asym (λ (x : QueueEntry). x .joined)) (number-onward (λ (x : QueueEntry). x .joined)) e b (all-sound b) s)
       ∙ ap (λ (q : Option QueueEntry). foldl looked q es) (looked-inserted e b o s)
 
 -- the pick is the same in order of joining
@@ -158,7 +144,7 @@ sorted-rising last (e ∷ es) a s =
 -- so the order of joining doesn't
 joining-rises : (queue : List QueueEntry) → neverFall (joinedBy (byJoining queue)) ≡ true
 joining-rises queue =
-    sorted-rising 0 (byJoining queue) (all-least (byJoining queue)) (sort-sorts earlier (λ x. Unit {0}) earlier-asym earlier-onward queue (all-sound queue))
+    sorted-rising 0 (byJoining queue) (all-least (byJoining queue)) (sort-sorts earlier (λ x. Unit {0}) (number-asym (λ (x : QueueEntry). x .joined)) (number-onward (λ (x : QueueEntry). x .joined)) queue (all-sound queue))
   where
     all-least : (es : List QueueEntry) → All (λ e. 0 ≤ e .joined) es
     all-least [] = tt
