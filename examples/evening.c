@@ -44,6 +44,6 @@ int main(void)
         printf("table: [%" PRIu64 ", %" PRIu64 "] against [%" PRIu64 ", %" PRIu64 "], quality %.2f\n", seats[0], seats[1], seats[2],
                seats[3], qualities[m]);
     }
-    printf("still waiting: %zu\n", round.hall.waiting.len);
+    printf("still waiting: %zu\n", round.hall.waiting);
     return 0;
 }

@@ -20,8 +20,8 @@
  * A null pointer, or a number that is larger than the list, is undefined behaviour and not a refusal.
  *
  * STRUCTS. Zero a struct before you fill it (`yilgashe_constraints rules = {0};`, in C++ `= {};`): all of it is copied across, and a
- * bool must hold 0 or 1 even where nothing reads it. Elements past a struct's `len` or `count` mean nothing. A `len` over the
- * array's size is no error of the caller's: the call answers YILGASHE_OVER_LIMIT.
+ * bool must hold 0 or 1 even where nothing reads it. Elements past a struct's `len` or `count`, and past a hall's `waiting` and
+ * `noted`, mean nothing. Such a number over the array's size is no error of the caller's: the call answers YILGASHE_OVER_LIMIT.
  *
  * STACK. A hall is 27,152 bytes, and calls pass it by value. Leave a call 512 KB of stack.
  */
@@ -39,7 +39,7 @@ extern "C" {
 /* ---- Refusals ---------------------------------------------------------------------------------------------------------------- */
 
 /*
- * What a call says no with. A field `refusal`, and a key record's `answer`, holds one of these numbers.
+ * What a call says no with. A field `refusal`, and a note's `answer`, holds one of these numbers.
  *
  * Searches, generators and rounds check 1, 2, 3, 4, 12, 6, 5 in this order, but the exhaustive generator checks 3 after 6.
  * Scores, constraints and selections check 1, 2, 4, 5. The queue's functions and times refuse with 1 and 4 alone. A booking checks
@@ -86,7 +86,7 @@ static inline const char *yilgashe_refusal_word(unsigned refusal)
 /* ---- Limits ------------------------------------------------------------------------------------------------------------------ */
 
 enum yilgashe_limit {
-    YILGASHE_MAX_WAITING = 64,     /* entries of a queue */
+    YILGASHE_MAX_WAITING = 64,     /* entries of a queue, bookings that wait in a hall */
     YILGASHE_MAX_KEYS = 1024,      /* keys that a hall notes; none is ever dropped */
     YILGASHE_MAX_ROSTER = 128,     /* rows of a roster column */
     YILGASHE_MAX_TEAM = 8,         /* guests of a team */
@@ -495,27 +495,7 @@ yilgashe_chosen yilgashe_best_choice(yilgashe_queue queue, yilgashe_team_composi
 
 enum yilgashe_kind { YILGASHE_BOOKING = 0, YILGASHE_WITHDRAWAL = 1 };
 
-/* A keyed call that was answered: its kind, and the refusal that it got. */
-typedef struct yilgashe_key_record {
-    uint64_t key;
-    uint64_t player;
-    uint8_t kind;
-    uint8_t answer;
-} yilgashe_key_record;
-
-/* The first `len` records, in the order of coming. */
-typedef struct yilgashe_key_log {
-    yilgashe_key_record records[1024];
-    size_t len;
-} yilgashe_key_log;
-
-/* Who waits, and which keys are noted. All zeros is the empty hall. */
-typedef struct yilgashe_hall {
-    yilgashe_queue waiting;
-    yilgashe_key_log log;
-} yilgashe_hall;
-
-/* What a booking brings beside its key: the entry that it makes. */
+/* What a booking brings beside its key, and what waits. Party 0 and role 0 mean none. */
 typedef struct yilgashe_booking {
     uint64_t player;
     uint64_t joined;
@@ -523,6 +503,25 @@ typedef struct yilgashe_booking {
     uint64_t party;
     uint32_t role;
 } yilgashe_booking;
+
+/* What is noted beside a key: whom the call was for, its kind, and the refusal that it got. */
+typedef struct yilgashe_note {
+    uint64_t player;
+    uint8_t kind;
+    uint8_t answer;
+} yilgashe_note;
+
+/*
+ * The first `waiting` bookings wait, in the order of coming. The first `noted` keys are noted, in the order of coming, each with the
+ * note at its place. All zeros is the empty hall.
+ */
+typedef struct yilgashe_hall {
+    yilgashe_booking bookings[64];
+    size_t waiting;
+    uint64_t keys[1024];
+    yilgashe_note notes[1024];
+    size_t noted;
+} yilgashe_hall;
 
 /* The hall as a keyed call leaves it, and its answer. */
 typedef struct yilgashe_keyed {

@@ -155,26 +155,24 @@ AT(yilgashe_chosen, tried, 144)
 AT(yilgashe_chosen, found, 152)
 AT(yilgashe_chosen, refusal, 153)
 
-SIZE(yilgashe_key_record, 24)
-AT(yilgashe_key_record, key, 0)
-AT(yilgashe_key_record, player, 8)
-AT(yilgashe_key_record, kind, 16)
-AT(yilgashe_key_record, answer, 17)
-
-SIZE(yilgashe_key_log, 24584)
-AT(yilgashe_key_log, records, 0)
-AT(yilgashe_key_log, len, 24576)
-
-SIZE(yilgashe_hall, 27152)
-AT(yilgashe_hall, waiting, 0)
-AT(yilgashe_hall, log, 2568)
-
 SIZE(yilgashe_booking, 40)
 AT(yilgashe_booking, player, 0)
 AT(yilgashe_booking, joined, 8)
 AT(yilgashe_booking, rating, 16)
 AT(yilgashe_booking, party, 24)
 AT(yilgashe_booking, role, 32)
+
+SIZE(yilgashe_note, 16)
+AT(yilgashe_note, player, 0)
+AT(yilgashe_note, kind, 8)
+AT(yilgashe_note, answer, 9)
+
+SIZE(yilgashe_hall, 27152)
+AT(yilgashe_hall, bookings, 0)
+AT(yilgashe_hall, waiting, 2560)
+AT(yilgashe_hall, keys, 2568)
+AT(yilgashe_hall, notes, 10760)
+AT(yilgashe_hall, noted, 27144)
 
 SIZE(yilgashe_keyed, 27160)
 AT(yilgashe_keyed, hall, 0)

@@ -520,9 +520,8 @@ static void choices(void)
     CHECK(told.refusal == YILGASHE_TOO_WIDE && !told.found && told.tried == 0);
 }
 
-static yilgashe_booking booking(uint64_t n)
+static yilgashe_booking booking_of(yilgashe_queue_entry e)
 {
-    yilgashe_queue_entry e = entry(n);
     yilgashe_booking b;
     b.player = e.player;
     b.joined = e.joined;
@@ -532,71 +531,105 @@ static yilgashe_booking booking(uint64_t n)
     return b;
 }
 
-static bool noted(const yilgashe_key_record *r, uint64_t key, uint64_t player, uint8_t kind, uint8_t answer)
+static yilgashe_booking booking(uint64_t n)
 {
-    return r->key == key && r->player == player && r->kind == kind && r->answer == answer;
+    return booking_of(entry(n));
 }
 
-/* Each booking makes its entry and its record; the 65th meets a full hall, and a resend the noted answer. */
+/* Is this the n-th booking? */
+static bool booked(yilgashe_booking b, uint64_t n)
+{
+    const yilgashe_queue_entry e = entry(n);
+    return b.player == e.player && b.joined == e.joined && b.rating == e.rating && b.party == e.party && b.role == e.role;
+}
+
+/* Those who wait in the queue wait in the hall. */
+static void fill(yilgashe_hall *hall, yilgashe_queue queue)
+{
+    size_t n;
+    for (n = 0; n < queue.len; n++) {
+        hall->bookings[n] = booking_of(queue.entries[n]);
+    }
+    hall->waiting = queue.len;
+}
+
+/* Is this key noted at place n, with this note beside it? */
+static bool noted(const yilgashe_hall *hall, uint64_t n, uint64_t key, uint64_t player, uint8_t kind, uint8_t answer)
+{
+    const yilgashe_note note = hall->notes[n];
+    return hall->keys[n] == key && note.player == player && note.kind == kind && note.answer == answer;
+}
+
+/* Each booking waits as it came, and its key gets its note; the 65th meets a full hall, and a resend the noted answer. */
 static void bookings(void)
 {
     static yilgashe_keyed told;
     uint64_t n;
     told.hall = yilgashe_hall_empty();
-    CHECK(told.hall.waiting.len == 0 && told.hall.log.len == 0);
+    CHECK(told.hall.waiting == 0 && told.hall.noted == 0);
     for (n = 0; n < 65; n++) {
         told = yilgashe_hall_book(told.hall, ~wide(n), booking(n));
         CHECK(told.refusal == (n == 64 ? YILGASHE_HALL_FULL : YILGASHE_ACCEPTED));
-        CHECK(told.hall.log.len == n + 1 && noted(&told.hall.log.records[n], ~wide(n), wide(n), YILGASHE_BOOKING, told.refusal));
+        CHECK(told.hall.noted == n + 1 && noted(&told.hall, n, ~wide(n), wide(n), YILGASHE_BOOKING, told.refusal));
     }
     told = yilgashe_hall_book(told.hall, ~wide(64), booking(64));
-    CHECK(told.refusal == YILGASHE_HALL_FULL && told.hall.log.len == 65 && told.hall.waiting.len == 64);
+    CHECK(told.refusal == YILGASHE_HALL_FULL && told.hall.noted == 65 && told.hall.waiting == 64);
     for (n = 0; n < 64; n++) {
-        CHECK(same_entry(told.hall.waiting.entries[n], entry(n)));
+        CHECK(booked(told.hall.bookings[n], n));
     }
     told = yilgashe_hall_withdraw(told.hall, 5, wide(0));
-    CHECK(told.refusal == YILGASHE_ACCEPTED && told.hall.waiting.len == 63);
-    CHECK(same_entry(told.hall.waiting.entries[62], entry(63)));
-    CHECK(noted(&told.hall.log.records[65], 5, wide(0), YILGASHE_WITHDRAWAL, YILGASHE_ACCEPTED));
+    CHECK(told.refusal == YILGASHE_ACCEPTED && told.hall.waiting == 63);
+    CHECK(booked(told.hall.bookings[62], 63));
+    CHECK(noted(&told.hall, 65, 5, wide(0), YILGASHE_WITHDRAWAL, YILGASHE_ACCEPTED));
     told = yilgashe_hall_withdraw(told.hall, 6, wide(0));
     CHECK(told.refusal == YILGASHE_NOT_WAITING);
-    CHECK(noted(&told.hall.log.records[66], 6, wide(0), YILGASHE_WITHDRAWAL, YILGASHE_NOT_WAITING));
+    CHECK(noted(&told.hall, 66, 6, wide(0), YILGASHE_WITHDRAWAL, YILGASHE_NOT_WAITING));
 }
 
-/* A log of 1,024 records, every field of them of its own, comes back from a call that it refuses, and answers by any of them. */
-static void key_logs(void)
+/* A hall of 1,024 keys, each with a note of its own. */
+static void note_all(yilgashe_hall *hall)
 {
-    static yilgashe_hall hall;
-    static yilgashe_keyed told;
     const uint8_t answers[8] = {YILGASHE_ACCEPTED, YILGASHE_CLOCK,       YILGASHE_ALREADY_WAITING, YILGASHE_HALL_FULL,
                                 YILGASHE_ACCEPTED, YILGASHE_NOT_WAITING, YILGASHE_ACCEPTED,        YILGASHE_NOT_WAITING};
     uint64_t n;
     for (n = 0; n < 1024; n++) {
-        yilgashe_key_record *r = &hall.log.records[n];
-        r->key = UINT64_C(0x1122334455660000) + n;
-        r->player = UINT64_C(0x99aabbccddee0000) + n;
-        r->kind = (uint8_t)(n / 4 % 2);
-        r->answer = answers[n % 8];
+        hall->keys[n] = UINT64_C(0x1122334455660000) + n;
+        hall->notes[n].player = UINT64_C(0x99aabbccddee0000) + n;
+        hall->notes[n].kind = (uint8_t)(n / 4 % 2);
+        hall->notes[n].answer = answers[n % 8];
     }
-    hall.log.len = 1024;
-    hall.waiting = full_queue();
+    hall->noted = 1024;
+}
+
+/* 1,024 keys and notes, every field of them of its own, come back from a call that is refused, and answer by any of them. */
+static void notes(void)
+{
+    static yilgashe_hall hall;
+    static yilgashe_keyed told;
+    uint64_t n;
+    note_all(&hall);
+    fill(&hall, full_queue());
     told = yilgashe_hall_book(hall, 1, booking(0));
-    CHECK(told.refusal == YILGASHE_BOOK_FULL && told.hall.log.len == 1024 && told.hall.waiting.len == 64);
+    CHECK(told.refusal == YILGASHE_BOOK_FULL && told.hall.noted == 1024 && told.hall.waiting == 64);
     for (n = 0; n < 1024; n++) {
-        const yilgashe_key_record *r = &hall.log.records[n];
-        CHECK(noted(&told.hall.log.records[n], r->key, r->player, r->kind, r->answer));
-        CHECK(n >= 64 || same_entry(told.hall.waiting.entries[n], entry(n)));
+        const yilgashe_note note = hall.notes[n];
+        CHECK(noted(&told.hall, n, hall.keys[n], note.player, note.kind, note.answer));
+        CHECK(n >= 64 || booked(told.hall.bookings[n], n));
     }
     for (n = 0; n < 1024; n += 31) {
-        const yilgashe_key_record *r = &hall.log.records[n];
+        const uint64_t key = hall.keys[n];
+        const yilgashe_note note = hall.notes[n];
         yilgashe_booking again = booking(0);
-        again.player = r->player;
-        told = r->kind == YILGASHE_BOOKING ? yilgashe_hall_book(hall, r->key, again) : yilgashe_hall_withdraw(hall, r->key, r->player);
-        CHECK(told.refusal == r->answer && told.hall.log.len == 1024);
-        told = r->kind == YILGASHE_BOOKING ? yilgashe_hall_withdraw(hall, r->key, r->player) : yilgashe_hall_book(hall, r->key, again);
+        again.player = note.player;
+        told = note.kind == YILGASHE_BOOKING ? yilgashe_hall_book(hall, key, again) : yilgashe_hall_withdraw(hall, key, note.player);
+        CHECK(told.refusal == note.answer && told.hall.noted == 1024);
+        told = note.kind == YILGASHE_BOOKING ? yilgashe_hall_withdraw(hall, key, note.player) : yilgashe_hall_book(hall, key, again);
         CHECK(told.refusal == YILGASHE_KEY_CLASH);
     }
-    hall.log.len = 1025;
+    hall.noted = 1025;
+    CHECK(yilgashe_hall_withdraw(hall, 1, 1).refusal == YILGASHE_OVER_LIMIT);
+    hall.noted = 1024;
+    hall.waiting = 65;
     CHECK(yilgashe_hall_withdraw(hall, 1, 1).refusal == YILGASHE_OVER_LIMIT);
 }
 
@@ -611,32 +644,32 @@ static void rounds(void)
     const yilgashe_beam_search beam = {32};
     yilgashe_constraints rules = no_rules;
     const uint64_t late = YILGASHE_MAX_TIME + 1;
-    hall.waiting = four();
-    hall.log.len = 1;
-    hall.log.records[0].key = wide(1);
+    fill(&hall, four());
+    hall.noted = 1;
+    hall.keys[0] = wide(1);
     fresh_sheets();
     told = yilgashe_hall_greedy_round(hall, two_one, 0, ids4, 4, ratings4, 4, players, SHEET, qualities, SHEET);
     CHECK(told.refusal == YILGASHE_ACCEPTED && told.count == 1 && told.tried == 0 && seated(1, 4, 3, ~(uint64_t)0));
-    CHECK(told.hall.waiting.len == 1 && told.hall.waiting.entries[0].player == 2);
-    CHECK(told.hall.log.len == 1 && told.hall.log.records[0].key == wide(1));
+    CHECK(told.hall.waiting == 1 && told.hall.bookings[0].player == 2);
+    CHECK(told.hall.noted == 1 && told.hall.keys[0] == wide(1));
     told = yilgashe_hall_greedy_round(hall, two_one, late, ids4, 4, ratings4, 4, players, SHEET, qualities, SHEET);
-    CHECK(told.refusal == YILGASHE_CLOCK && told.count == 0 && told.hall.waiting.len == 4);
+    CHECK(told.refusal == YILGASHE_CLOCK && told.count == 0 && told.hall.waiting == 4);
     fresh_sheets();
     told = yilgashe_hall_beam_round(hall, beam, one_two, quality, 0, ids4, 4, ratings4, 4, deviations4, 4, players, SHEET, qualities,
                                     SHEET);
     CHECK(told.refusal == YILGASHE_ACCEPTED && told.count == 1 && told.tried == 0 && seated(1, 3, 4, ~(uint64_t)0));
     told = yilgashe_hall_beam_round(hall, beam, one_two, quality, late, ids4, 4, ratings4, 4, deviations4, 4, players, SHEET,
                                     qualities, SHEET);
-    CHECK(told.refusal == YILGASHE_CLOCK && told.hall.waiting.len == 4);
+    CHECK(told.refusal == YILGASHE_CLOCK && told.hall.waiting == 4);
     fresh_sheets();
     told = yilgashe_hall_full_round(hall, two_one, rules, skill, 0, ids4, 4, ratings4, 4, parties4, 4, roles4, 4, regions4, 4, players,
                                     SHEET, qualities, SHEET);
     CHECK(told.refusal == YILGASHE_ACCEPTED && told.count == 1 && told.tried == 4 && seated(1, 2, 4, ~(uint64_t)0));
-    CHECK(told.hall.waiting.len == 1 && told.hall.waiting.entries[0].player == 3 && qualities[0] == 0.0);
+    CHECK(told.hall.waiting == 1 && told.hall.bookings[0].player == 3 && qualities[0] == 0.0);
     rules.brought.sizes = true;
     told = yilgashe_hall_full_round(hall, two_one, rules, skill, 0, ids4, 4, ratings4, 4, parties4, 4, roles4, 4, regions4, 4, players,
                                     SHEET, qualities, SHEET);
-    CHECK(told.refusal == YILGASHE_ACCEPTED && told.count == 0 && told.tried == 4 && told.hall.waiting.len == 4);
+    CHECK(told.refusal == YILGASHE_ACCEPTED && told.count == 0 && told.tried == 4 && told.hall.waiting == 4);
     told = yilgashe_hall_full_round(hall, two_one, rules, skill, late, ids4, 4, ratings4, 4, parties4, 4, roles4, 4, regions4, 4,
                                     players, SHEET, qualities, SHEET);
     CHECK(told.refusal == YILGASHE_CLOCK && told.count == 0 && told.tried == 0);
@@ -674,7 +707,7 @@ int main(void)
     searches();
     choices();
     bookings();
-    key_logs();
+    notes();
     rounds();
     printf("%u passed\n", passed);
     return 0;

@@ -5,7 +5,7 @@ use crate::proposed::raw_objectives;
 use crate::refusal::answered;
 use crate::{Constraints, Refusal, Roster, SoftObjective};
 use yilgashe_sys as sys;
-use yilgashe_sys::{BeamSearch, Booking, KeyRecord, MatchObjective, QueueEntry, TeamComposition};
+use yilgashe_sys::{BeamSearch, Booking, MatchObjective, TeamComposition};
 
 /// Who waits, and the keys of the calls that were answered: 64 guests and 1,024 keys at most, and no key is ever dropped.
 ///
@@ -28,6 +28,19 @@ use yilgashe_sys::{BeamSearch, Booking, KeyRecord, MatchObjective, QueueEntry, T
 #[derive(Clone, Debug)]
 pub struct Hall(Box<sys::Hall>);
 
+/// One keyed call that was answered.
+#[derive(Clone, Copy, Debug, Default, PartialEq)]
+pub struct KeyRecord {
+    /// The caller's key.
+    pub key: u64,
+    /// Whom the call was for.
+    pub player: u64,
+    /// 0 a booking, 1 a withdrawal.
+    pub kind: u8,
+    /// 0 accepted, else the refusal's number.
+    pub answer: u8,
+}
+
 /// What a full round hands out: one match or none, and how many choices it tried.
 #[derive(Clone, Debug, PartialEq)]
 pub struct FullRound {
@@ -43,14 +56,20 @@ impl Hall {
         Hall(Box::new(sys::hall_empty()))
     }
 
-    /// Those who wait, in the order booked.
-    pub fn waiting(&self) -> &[QueueEntry] {
-        self.0.waiting.waiting()
+    /// The bookings of those who wait, in the order booked.
+    pub fn waiting(&self) -> &[Booking] {
+        self.0.booked()
     }
 
     /// The answered calls, in the order of coming.
-    pub fn noted(&self) -> &[KeyRecord] {
-        self.0.log.noted()
+    pub fn noted(&self) -> Vec<KeyRecord> {
+        let record = |(key, note): (u64, sys::Note)| KeyRecord {
+            key,
+            player: note.player,
+            kind: note.kind,
+            answer: note.answer,
+        };
+        self.0.answered().map(record).collect()
     }
 
     /// A booking under a key.

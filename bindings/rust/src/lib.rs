@@ -38,7 +38,7 @@ pub mod select;
 pub mod time;
 pub mod vector;
 
-pub use hall::{FullRound, Hall};
+pub use hall::{FullRound, Hall, KeyRecord};
 pub use matches::{Iter, Match, Matches};
 pub use proposed::{ProposedMatch, SoftObjective, soft_score};
 pub use queue::Queue;
@@ -48,6 +48,5 @@ pub use rules::{Constraints, Fault, RoleRequirement, TeamRule};
 pub use searches::Choice;
 pub use yilgashe_sys as sys;
 pub use yilgashe_sys::{
-    Booking, KeyRecord, MatchObjective, MatchObjectiveVector, ObjectiveWeights, QueueEntry,
-    TeamComposition,
+    Booking, MatchObjective, MatchObjectiveVector, ObjectiveWeights, QueueEntry, TeamComposition,
 };

@@ -1,9 +1,9 @@
 //! The safe crate at the counter: what it adds is types, so each refusal that its types still allow is met once.
 
 use yilgashe::{
-    Booking, Constraints, Fault, Hall, Match, MatchObjective, ProposedMatch, Queue, QueueEntry,
-    Refusal, Region, RoleRequirement, Roster, Row, SoftObjective, TeamComposition, TeamRule,
-    select, sys, time,
+    Booking, Constraints, Fault, Hall, KeyRecord, Match, MatchObjective, ProposedMatch, Queue,
+    QueueEntry, Refusal, Region, RoleRequirement, Roster, Row, SoftObjective, TeamComposition,
+    TeamRule, select, sys, time,
 };
 
 const PAIRS: TeamComposition = TeamComposition { a: 1, b: 1 };
@@ -75,13 +75,34 @@ fn keyed_refusals() {
 }
 
 #[test]
+fn who_waits_and_what_is_noted() {
+    let mut hall = Hall::new();
+    let guest = Booking {
+        joined: 5,
+        party: 6,
+        role: 7,
+        ..booking(1)
+    };
+    assert_eq!(hall.book(8, guest), Ok(()));
+    assert_eq!(hall.withdraw(9, 2), Err(Refusal::NotWaiting));
+    let record = |key, player, kind, answer| KeyRecord {
+        key,
+        player,
+        kind,
+        answer,
+    };
+    assert_eq!(hall.noted(), [record(8, 1, 0, 0), record(9, 2, 1, 11)]);
+    assert_eq!(hall.waiting(), [guest]);
+}
+
+#[test]
 fn a_hall_is_kept_and_taken_up_again() {
     let kept = *hall(3).as_ref();
     let mut again = Hall::from(kept);
     assert_eq!(again.book(2, booking(2)), Ok(()));
     assert_eq!(again.waiting(), hall(3).waiting());
     let mut over = kept;
-    over.log.len = 1025;
+    over.noted = 1025;
     assert_eq!(Hall::from(over).withdraw(9, 1), Err(Refusal::OverLimit));
 }
 
@@ -112,7 +133,7 @@ fn rounds_seat_and_refuse() {
         quality: 1.0,
     };
     assert_eq!(seated.iter().collect::<Vec<_>>(), [table]);
-    assert_eq!(beam.waiting(), [entry(3)]);
+    assert_eq!(beam.waiting(), [booking(3)]);
     let free = Constraints::default();
     let round = hall(21).full_round(PAIRS, &free, &[], 0, &roster);
     assert_eq!(round, Err(Refusal::TooWide));

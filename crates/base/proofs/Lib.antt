@@ -1,8 +1,10 @@
 pub mod Cases
 pub mod Checks
+pub mod Numbers
 pub mod Arrays
 pub mod Loops
 pub mod Members
+pub mod Lookup
 pub mod Sheets
 pub mod Sign
 pub mod Order

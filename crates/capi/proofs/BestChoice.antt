@@ -1,6 +1,6 @@
 -- The best choice in numbers: one law for each answer.
 use Prim.Native.Nat.{ℕ}
-use mathlib.Core.Path.{_≡_, refl, sym, ap, _∙_}
+use mathlib.Core.Path.{_≡_, sym, ap, _∙_}
 use mathlib.Core.Bool.{Bool, true, false}
 use Rattle.base.specs.Refusals.{Outcome, refused, refusalNumber}
 use Rattle.base.specs.declared.Refusal.{Refusal}
@@ -9,7 +9,7 @@ use Rattle.choice.specs.Full.{Selection, choiceBy, choiceOf}
 use Rattle.choice.specs.declared.Choice.{Choice}
 use Rattle.choice.specs.declared.Verdict.{Verdict}
 use Rattle.choice.specs.declared.Verdict.the-variants as Verdict
-use Rattle.capi.specs.Numbers.{refusalOf}
+use Rattle.base.specs.Numbers.{refusalOf}
 use Rattle.capi.specs.FullRounds.{ChoiceNumbers, chosenIn, triedIn, foundIn}
 use Rattle.capi.specs.declared.rounds.Chosen.{Chosen}
 

@@ -1,6 +1,6 @@
 -- A selection's answer, in numbers: behind the check of the kinds, and for an equal rule.
 use Prim.Native.Nat.{ℕ}
-use mathlib.Core.Path.{_≡_, refl, subst}
+use mathlib.Core.Path.{_≡_, subst}
 use mathlib.Core.Bool.{true, false}
 use mathlib.Core.List.{List}
 use lib.ListN.{take}

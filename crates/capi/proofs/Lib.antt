@@ -2,6 +2,6 @@ pub mod Softs
 pub mod Maps
 pub mod Choices
 pub mod BestChoice
-pub mod HallNumbers
+pub mod HallRounds
 pub mod Runs
 pub mod OldCounter

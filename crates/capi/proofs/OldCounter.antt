@@ -15,28 +15,23 @@ use Rattle.roster.specs.Roster.{Roster, tooLong, isRegion, ratingsCheck}
 use Rattle.matchmaker.specs.Quality.{MatchState, qualityOf}
 use Rattle.objective.specs.declared.score.MatchObjective.{MatchObjective}
 use Rattle.seating.specs.declared.TeamComposition.{TeamComposition}
-use Rattle.seating.specs.Seating.{Sheets, HandedOut, sizesOver, areShort, handedOut, readOff, countIn, toldBy}
+use Rattle.seating.specs.Seating.{Sheets, HandedOut, sizesOver, areShort, handedOut, readOff, toldBy}
 use Rattle.search.specs.Greedy.{greedyMatches, greedyCheck, greedyRule}
 use Rattle.search.specs.Beam.{beamRule}
 use Rattle.search.specs.Seats.{Seating}
 use Rattle.search.specs.Copies.{Copied}
 use Rattle.search.proofs.OldCounter.{greedy-told, beam-told, greedy-rule-copied}
-use Rattle.capi.specs.Numbers.{refusalOf, valueOr}
+use Rattle.base.specs.Numbers.{refusalOf, valueOr}
 use Rattle.capi.specs.Searches.{formedNumbers, SearchNumbers}
 use Rattle.capi.specs.declared.searches.Formed.{Formed}
 
 -- ---- who is seated
 
--- the count that crosses is that of the matches
-count-crosses : (o : Outcome ℕ) → valueOr 0 o ≡ countIn o
-count-crosses (refused n) = refl
-count-crosses (gives n) = refl
-
 module _ (s : TeamComposition) (f : Formed) (players : List ℕ) (qualities : List Float) where
   -- the first `count` matches on the sheet are those that the rule's call tells
   told-in-numbers : (h : HandedOut) → SearchNumbers h f players qualities → readOff s (f .count) players ≡ toldBy s h
   told-in-numbers h n =
-      let c : f .count ≡ countIn (h .answer) = ap (λ (x : Formed). x .count) (n .answer) ∙ count-crosses (h .answer) in
+      let c : f .count ≡ valueOr 0 (h .answer) = ap (λ (x : Formed). x .count) (n .answer) in
       let p : players ≡ h .sheets .players = ap (λ (x : Sheets). x .players) (n .left) in
       rw (c, p)
 

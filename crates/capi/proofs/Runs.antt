@@ -9,11 +9,11 @@ use Rattle.base.specs.Lists.{any}
 use Rattle.hall.specs.declared.Hall.{Hall}
 use Rattle.hall.specs.Hall.{HallState, hallOf, empty, Deed, keyedRule}
 use Rattle.hall.specs.Rounds.{RoundCall, roundRule}
-use Rattle.hall.specs.Calls.{Call, keyed, round, Answer, answered, handed}
-use Rattle.hall.specs.Runs.{Met, keyed-met, round-met, Run}
-use Rattle.hall.proofs.Runs.{Kept, demand3-of-runs}
+use Rattle.demand.specs.Calls.{Call, keyed, round, no-kind, Answer, answered, handed}
+use Rattle.demand.specs.Runs.{Met, keyed-met, round-met, no-kind-met, Run, Kept}
+use Rattle.demand.proofs.Runs.{demand3-of-runs}
 use Rattle.capi.specs.Scores.{isNoKind}
-use Rattle.capi.specs.Halls.{turnIn, roundIn, RoundNumbers, turnedAway, fullRule}
+use Rattle.capi.specs.Halls.{turnIn, roundIn, RoundNumbers, fullRule}
 use Rattle.capi.specs.declared.halls.Keyed.{Keyed}
 use Rattle.capi.specs.declared.halls.Rounded.{Rounded}
 use Rattle.capi.specs.declared.scores.SoftObjectives.{SoftObjectives}
@@ -33,10 +33,10 @@ module _ (h : HallState) (c : RoundCall) (r : Rounded) (ps : List ℕ) (qs : Lis
       Met h (round c) (handed (roundIn r ps qs .handed) (r .tried)) (hallOf (r .hall))
   full-export-met o e n = round-met (roundIn r ps qs) (rw e at n .turn)
 
-  -- a full round with a code that is no kind leaves the hall and the sheets, so a run goes on as if it had not been called
-  pub no-kind-turned-away : (o : SoftObjectives) → any isNoKind (take (o .len) (o .kinds)) ≡ true → RoundNumbers (fullRule h o c) r ps qs →
-      roundIn r ps qs ≡ turnedAway h (c .sheets) 1
-  no-kind-turned-away o e n = rw e at n .turn
+  -- and one with a code that is no kind, which is turned away
+  pub no-kind-export-met : (o : SoftObjectives) → any isNoKind (take (o .len) (o .kinds)) ≡ true → RoundNumbers (fullRule h o c) r ps qs →
+      Met h (no-kind (c .sheets)) (handed (roundIn r ps qs .handed) (r .tried)) (hallOf (r .hall))
+  no-kind-export-met o e n = no-kind-met (roundIn r ps qs) (rw e at n .turn)
 
 -- demand 3 of every run from the exported empty hall
 pub demand3-of-exports : (start : Hall) → hallOf start ≡ empty → (calls : List Call) (rs : List Answer) (l : HallState) →

@@ -11,7 +11,7 @@ use Rattle.roster.specs.Roster.{Roster}
 use Rattle.matchmaker.specs.Quality.{MatchState, matchOf}
 use Rattle.seating.specs.declared.TeamComposition.{TeamComposition}
 use Rattle.choice.specs.Full.{Selection, terms, choiceRule}
-use Rattle.capi.specs.Numbers.{refusalOf}
+use Rattle.base.specs.Numbers.{refusalOf}
 use Rattle.capi.specs.Rules.{constraintsOf}
 use Rattle.capi.specs.Scores.{isNoKind, softsOf}
 use Rattle.capi.specs.declared.rounds.Chosen.{Chosen}

@@ -6,16 +6,14 @@ use mathlib.Core.List.{List}
 use lib.Ieee.{Float}
 use lib.ListN.{take}
 use Rattle.base.specs.Lists.{any}
-use Rattle.base.specs.Refusals.{refused, checkedOf}
+use Rattle.base.specs.Numbers.{valueOr, outcomeIn}
 use Rattle.roster.specs.Roster.{Roster}
 use Rattle.seating.specs.declared.TeamComposition.{TeamComposition}
-use Rattle.seating.specs.Seating.{Sheets, formedOf}
+use Rattle.seating.specs.Seating.{Sheets}
 use Rattle.choice.specs.Full.{terms}
 use Rattle.hall.specs.Hall.{HallState, hallOf, Turn}
 use Rattle.hall.specs.Rounds.{full, RoundCall, RoundTurn, roundRule}
-use Rattle.hall.specs.declared.Keyed as keys
-use Rattle.hall.specs.declared.rounds.Rounded as rounds
-use Rattle.capi.specs.Numbers.{refusalOf, valueOr, outcomeIn}
+use Rattle.demand.specs.Calls.{turnedAway}
 use Rattle.capi.specs.Rules.{constraintsOf}
 use Rattle.capi.specs.Scores.{isNoKind, softsOf}
 use Rattle.capi.specs.Searches.{sheets}
@@ -26,19 +24,11 @@ use Rattle.capi.specs.declared.scores.SoftObjectives.{SoftObjectives}
 
 -- ---- bookings and withdrawals
 
--- the hall's answer in numbers
-abbrev pub keyedNumbers : keys.Keyed → Keyed
-keyedNumbers k = record { hall = k .hall; refusal = refusalOf (checkedOf (k .answer)) }
-
 -- the turn that the numbers tell, so that an export promises the hall's own rule
 abbrev pub turnIn : Keyed → Turn
 turnIn k = record { hall = hallOf (k .hall); answer = outcomeIn (k .refusal) tt }
 
 -- ---- rounds
-
--- the round's answer in numbers
-abbrev pub roundedNumbers : rounds.Rounded → Rounded
-roundedNumbers r = record { hall = r .hall; count = valueOr 0 (formedOf (r .answer)); tried = r .tried; refusal = refusalOf (formedOf (r .answer)) }
 
 -- the turn that the numbers tell, beside the final content of the sheets
 abbrev pub roundIn : Rounded → List ℕ → List Float → RoundTurn
@@ -60,10 +50,6 @@ pub record RoundNumbers (t : RoundTurn) (r : Rounded) (players : List ℕ) (qual
 abbrev pub fullCall : TeamComposition → Constraints → SoftObjectives → ℕ → Roster → Sheets → RoundCall
 fullCall sizes c o clock r s =
     record { round = full sizes (terms r (constraintsOf c) (softsOf (o .kinds) (o .weights)) (o .len)); clock = clock; sheets = s }
-
--- a round that is refused and changes nothing
-abbrev pub turnedAway : HallState → Sheets → ℕ → RoundTurn
-turnedAway h s n = record { hall = h; handed = record { answer = refused n; sheets = s }; tried = 0 }
 
 -- a soft kind that is none, or the round
 abbrev pub fullRule : HallState → SoftObjectives → RoundCall → RoundTurn

@@ -1,23 +1,9 @@
--- An outcome in numbers, as it crosses to C: the refusal, 0 where there is none, and the value, a given one where it is refused.
-use Prim.Native.Nat.{ℕ, zero, suc}
+-- What may or may not be found, as it crosses to C: whether it is, and the value, a given one where it is not.
 use mathlib.Core.Bool.{Bool, true, false}
 use mathlib.Core.Option.{Option, none, some}
 use Rattle.base.specs.Refusals.{Outcome, refused, gives}
 
 module _ {A : Type 0} where
-  abbrev pub refusalOf : Outcome A → ℕ
-  refusalOf (refused n) = n
-  refusalOf (gives a) = 0
-
-  abbrev pub valueOr : A → Outcome A → A
-  valueOr d (refused n) = d
-  valueOr d (gives a) = a
-
-  -- back from numbers: the outcome that a refusal and a value tell
-  abbrev pub outcomeIn : ℕ → A → Outcome A
-  outcomeIn zero a = gives a
-  outcomeIn (suc n) a = refused (suc n)
-
   abbrev pub foundIn : Outcome (Option A) → Bool
   foundIn (refused n) = false
   foundIn (gives none) = false

@@ -1,15 +1,14 @@
 -- What the exported queue and time functions answer.
 use Prim.Native.Nat.{ℕ}
 use mathlib.Core.Path.{_≡_}
-use mathlib.Core.Bool.{Bool}
-use mathlib.Core.List.{List}
 use mathlib.Core.Option.{Option}
 use lib.Ieee.{Float}
 use Rattle.base.specs.Floats.{zero}
 use Rattle.base.specs.Refusals.{Outcome}
-use Rattle.queue.specs.Queue.{QueueState, queueOf, Enqueuing, Removing, Parting}
+use Rattle.queue.specs.Queue.{queueOf, Enqueuing, Removing, Parting}
 use Rattle.queue.specs.declared.QueueEntry.{QueueEntry}
-use Rattle.capi.specs.Numbers.{refusalOf, valueOr, foundIn, foundOr}
+use Rattle.base.specs.Numbers.{refusalOf, valueOr}
+use Rattle.capi.specs.Numbers.{foundIn, foundOr}
 use Rattle.capi.specs.declared.queues.Enqueued.{Enqueued}
 use Rattle.capi.specs.declared.queues.Removed.{Removed}
 use Rattle.capi.specs.declared.queues.Batch.{Batch}

@@ -5,7 +5,7 @@ use mathlib.Core.List.{map}
 use lib.Ieee.{Float}
 use lib.ListN.{take}
 use Rattle.base.specs.Lists.{any}
-use Rattle.base.specs.Refusals.{Outcome, refused, gives}
+use Rattle.base.specs.Refusals.{Outcome, refused}
 use Rattle.roster.specs.Roster.{Roster}
 use Rattle.matchmaker.specs.Quality.{MatchState}
 use Rattle.constraint.specs.declared.roles.Maximum.{Maximum}
@@ -15,7 +15,7 @@ use Rattle.constraint.specs.declared.roles.RoleConstraint.{RoleConstraint}
 use Rattle.constraint.specs.declared.Constraints as whole
 use Rattle.constraint.specs.Refusing.{Report, valid, wrongSize, tooFew, tooMany}
 use Rattle.policy.specs.Policy.{policyScoreRule}
-use Rattle.capi.specs.Numbers.{refusalOf, valueOr}
+use Rattle.base.specs.Numbers.{refusalOf, valueOr}
 use Rattle.capi.specs.Scores.{isNoKind, softsOf}
 use Rattle.capi.specs.declared.scores.SoftObjectives.{SoftObjectives}
 use Rattle.capi.specs.declared.rules.RoleRequirement.{RoleRequirement}

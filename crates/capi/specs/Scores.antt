@@ -13,7 +13,7 @@ use Rattle.matchmaker.specs.Quality.{MatchState}
 use Rattle.objective.specs.Soft.{softValueRule, softScoreRule}
 use Rattle.objective.specs.declared.soft.SoftObjective.{SoftObjective}
 use Rattle.objective.specs.declared.soft.SoftObjective.the-variants.{Skill, Latency, Wait}
-use Rattle.capi.specs.Numbers.{refusalOf, valueOr}
+use Rattle.base.specs.Numbers.{refusalOf, valueOr}
 use Rattle.capi.specs.declared.scores.Scored.{Scored}
 use Rattle.capi.specs.declared.scores.SoftObjectives.{SoftObjectives}
 

@@ -5,7 +5,7 @@ use mathlib.Core.List.{List}
 use lib.Ieee.{Float}
 use Rattle.base.specs.Refusals.{Outcome}
 use Rattle.seating.specs.Seating.{Sheets, HandedOut}
-use Rattle.capi.specs.Numbers.{refusalOf, valueOr}
+use Rattle.base.specs.Numbers.{refusalOf, valueOr}
 use Rattle.capi.specs.declared.searches.Formed.{Formed}
 
 abbrev pub formedNumbers : Outcome ℕ → Formed

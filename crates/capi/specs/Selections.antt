@@ -10,7 +10,7 @@ use Rattle.base.specs.Refusals.{Outcome, refused}
 use Rattle.roster.specs.Roster.{Roster}
 use Rattle.objective.specs.declared.pareto.ObjectiveWeights.{ObjectiveWeights}
 use Rattle.selection.specs.Selection as S
-use Rattle.capi.specs.Numbers.{refusalOf, valueOr}
+use Rattle.base.specs.Numbers.{refusalOf, valueOr}
 use Rattle.capi.specs.Scores.{isNoKind, softsOf}
 use Rattle.capi.specs.declared.scores.SoftObjectives.{SoftObjectives}
 use Rattle.capi.specs.declared.selections.Candidates.{Candidates}

@@ -1,14 +1,18 @@
-// The hall's calls, exported: each gets the hall by value and hands out the hall as it leaves it.
+// The hall's calls, exported: each gets the hall by value and hands out the hall as it leaves it. A call reads and stores through one
+// local, and nothing here takes a hall from another function: every such step would copy it once more.
 ghost use mathlib.Core.Path.{_≡_};
 ghost use Rattle.roster.specs.Roster.{ofRatings, ofDeviations, ofRules};
 ghost use Rattle.hall.specs.Hall.{hallOf, empty, book, withdraw, keyedRule};
 ghost use Rattle.hall.specs.Rounds.{greedy, beam, roundRule};
 ghost use Rattle.capi.specs.Searches.{sheets};
-ghost use Rattle.capi.specs.Halls.{keyedNumbers, turnIn, roundedNumbers, RoundNumbers, fullCall, fullRule};
+ghost use Rattle.capi.specs.Halls.{turnIn, RoundNumbers, fullCall, fullRule};
 use crate::rules::Constraints;
 use crate::scores::SoftObjectives;
 use hall::Booking;
 use hall::Hall;
+use hall::notes;
+use hall::rounds;
+use hall::waiting;
 use objective::score::MatchObjective;
 use search::beam::BeamSearch;
 use seating::TeamComposition;
@@ -29,52 +33,120 @@ pub struct Rounded {
     pub refusal: u8,
 }
 
-fn keyed_numbers(keyed: hall::Keyed) -> Keyed
-    ensures { λ r. ⌜ r ≡ keyedNumbers keyed ⌝ }
-{
-    let after = keyed.hall;
-    let answer = keyed.answer;
-    Keyed {
-        hall: after,
-        refusal: crate::queues::refusal_number(answer),
-    }
-}
-
-fn round_numbers(rounded: hall::rounds::Rounded) -> Rounded
-    ensures { λ r. ⌜ r ≡ roundedNumbers rounded ⌝ }
-{
-    let after = rounded.hall;
-    let answer = rounded.answer;
-    let tried = rounded.tried;
-    let formed = crate::searches::in_numbers(answer);
-    Rounded {
-        hall: after,
-        count: formed.count,
-        tried: tried,
-        refusal: formed.refusal,
-    }
-}
-
+// Nobody waits, and no key is noted.
 #[no_mangle]
 pub extern "C" fn yilgashe_hall_empty() -> Hall
     ensures { λ r. ⌜ hallOf r ≡ empty ⌝ }
 {
-    Hall::empty()
+    let booking = Booking {
+        player: 0,
+        joined: 0,
+        rating: 0.0,
+        party: 0,
+        role: 0,
+    };
+    let note = notes::booking_note(booking, 0);
+    Hall {
+        bookings: [booking; 64],
+        waiting: 0,
+        keys: [0; 1024],
+        notes: [note; 1024],
+        noted: 0,
+    }
 }
+
+// ---- bookings and withdrawals
 
 #[no_mangle]
 pub extern "C" fn yilgashe_hall_book(hall: Hall, key: u64, booking: Booking) -> Keyed
     ensures { λ r. ⌜ turnIn r ≡ keyedRule (hallOf hall) key (book booking) ⌝ }
 {
-    keyed_numbers(hall.book(key, booking))
+    let mut out = hall;
+    let k = out.waiting;
+    let n = out.noted;
+    if hall::is_over(k, n) {
+        return Keyed {
+            hall: out,
+            refusal: 1,
+        };
+    }
+    let at = notes::place_of(&out.keys, n, key);
+    if at < n {
+        let note = out.notes[at];
+        return Keyed {
+            hall: out,
+            refusal: notes::heard_booking(note, booking),
+        };
+    }
+    if 1024 <= n {
+        return Keyed {
+            hall: out,
+            refusal: 8,
+        };
+    }
+    let bookings = out.bookings;
+    let waits = waiting::waits(bookings, k, booking.player);
+    let answer = hall::booking_answer(booking, waits, k);
+    out.keys[n] = key;
+    out.notes[n] = notes::booking_note(booking, answer);
+    out.noted = n + 1;
+    if answer == 0 {
+        out.bookings[k] = booking;
+        out.waiting = k + 1;
+        return Keyed {
+            hall: out,
+            refusal: 0,
+        };
+    }
+    Keyed {
+        hall: out,
+        refusal: answer,
+    }
 }
 
 #[no_mangle]
 pub extern "C" fn yilgashe_hall_withdraw(hall: Hall, key: u64, player: u64) -> Keyed
     ensures { λ r. ⌜ turnIn r ≡ keyedRule (hallOf hall) key (withdraw player) ⌝ }
 {
-    keyed_numbers(hall.withdraw(key, player))
+    let mut out = hall;
+    let k = out.waiting;
+    let noted = out.noted;
+    if hall::is_over(k, noted) {
+        return Keyed {
+            hall: out,
+            refusal: 1,
+        };
+    }
+    let at = notes::place_of(&out.keys, noted, key);
+    if at < noted {
+        let note = out.notes[at];
+        return Keyed {
+            hall: out,
+            refusal: notes::heard_withdrawal(note, player),
+        };
+    }
+    if 1024 <= noted {
+        return Keyed {
+            hall: out,
+            refusal: 8,
+        };
+    }
+    let bookings = out.bookings;
+    let answer = hall::withdrawal_answer(waiting::waits(bookings, k, player));
+    out.keys[noted] = key;
+    out.notes[noted] = notes::withdrawal_note(player, answer);
+    out.noted = noted + 1;
+    let staying = waiting::without_first(bookings, k, player);
+    let rest = staying.bookings;
+    out.bookings = rest;
+    out.waiting = staying.waiting;
+    Keyed {
+        hall: out,
+        refusal: answer,
+    }
 }
+
+// ---- rounds
 
 #[no_mangle]
 pub extern "C" fn yilgashe_hall_greedy_round(
@@ -88,7 +160,28 @@ pub extern "C" fn yilgashe_hall_greedy_round(
 ) -> Rounded
     ensures { λ r. ⌜ RoundNumbers (roundRule (hallOf hall) (record { round = greedy sizes (ofRatings (now (ids .entry)) (now (ratings .entry))); clock = clock; sheets = sheets (now (players .entry)) (now (qualities .entry)) })) r (now (players .exit)) (now (qualities .exit)) ⌝ }
 {
-    round_numbers(hall.greedy_round(sizes, clock, ids, ratings, players, qualities))
+    let mut out = hall;
+    let n = out.waiting;
+    if hall::is_over(n, out.noted) {
+        return Rounded {
+            hall: out,
+            count: 0,
+            tried: 0,
+            refusal: 1,
+        };
+    }
+    let bookings = out.bookings;
+    let handed = rounds::greedy_handed(bookings, n, sizes, clock, ids, ratings, players, qualities);
+    let staying = waiting::without_seated(bookings, n, players, handed.seats);
+    let rest = staying.bookings;
+    out.bookings = rest;
+    out.waiting = staying.waiting;
+    Rounded {
+        hall: out,
+        count: handed.count,
+        tried: handed.tried,
+        refusal: handed.refusal,
+    }
 }
 
 #[no_mangle]
@@ -106,9 +199,22 @@ pub extern "C" fn yilgashe_hall_beam_round(
 ) -> Rounded
     ensures { λ r. ⌜ RoundNumbers (roundRule (hallOf hall) (record { round = beam sizes (search .width) objective (ofDeviations (now (ids .entry)) (now (ratings .entry)) (now (deviations .entry))); clock = clock; sheets = sheets (now (players .entry)) (now (qualities .entry)) })) r (now (players .exit)) (now (qualities .exit)) ⌝ }
 {
-    round_numbers(hall.beam_round(
+    let mut out = hall;
+    let n = out.waiting;
+    if hall::is_over(n, out.noted) {
+        return Rounded {
+            hall: out,
+            count: 0,
+            tried: 0,
+            refusal: 1,
+        };
+    }
+    let bookings = out.bookings;
+    let handed = rounds::beam_handed(
+        bookings,
+        n,
+        search,
         sizes,
-        search.width,
         objective,
         clock,
         ids,
@@ -116,7 +222,17 @@ pub extern "C" fn yilgashe_hall_beam_round(
         deviations,
         players,
         qualities,
-    ))
+    );
+    let staying = waiting::without_seated(bookings, n, players, handed.seats);
+    let rest = staying.bookings;
+    out.bookings = rest;
+    out.waiting = staying.waiting;
+    Rounded {
+        hall: out,
+        count: handed.count,
+        tried: handed.tried,
+        refusal: handed.refusal,
+    }
 }
 
 // A code that is no kind is refused before everything, and changes nothing.
@@ -137,22 +253,32 @@ pub extern "C" fn yilgashe_hall_full_round(
 ) -> Rounded
     ensures { λ r. ⌜ RoundNumbers (fullRule (hallOf hall) objectives (fullCall sizes constraints objectives clock (ofRules (now (ids .entry)) (now (ratings .entry)) (now (parties .entry)) (now (roles .entry)) (now (regions .entry))) (sheets (now (players .entry)) (now (qualities .entry))))) r (now (players .exit)) (now (qualities .exit)) ⌝ }
 {
+    let mut out = hall;
     if objectives.has_no_kind() {
         return Rounded {
-            hall: hall,
+            hall: out,
             count: 0,
             tried: 0,
             refusal: 1,
         };
     }
-    let all = crate::rules::constraints_of(constraints);
-    let softs = objectives.objectives();
-    let n = objectives.len;
-    round_numbers(hall.full_round(
-        sizes,
-        all,
-        softs,
+    let n = out.waiting;
+    if hall::is_over(n, out.noted) {
+        return Rounded {
+            hall: out,
+            count: 0,
+            tried: 0,
+            refusal: 1,
+        };
+    }
+    let bookings = out.bookings;
+    let handed = rounds::full_handed(
+        bookings,
         n,
+        sizes,
+        crate::rules::constraints_of(constraints),
+        objectives.objectives(),
+        objectives.len,
         clock,
         ids,
         ratings,
@@ -161,5 +287,15 @@ pub extern "C" fn yilgashe_hall_full_round(
         regions,
         players,
         qualities,
-    ))
+    );
+    let staying = waiting::without_seated(bookings, n, players, handed.seats);
+    let rest = staying.bookings;
+    out.bookings = rest;
+    out.waiting = staying.waiting;
+    Rounded {
+        hall: out,
+        count: handed.count,
+        tried: handed.tried,
+        refusal: handed.refusal,
+    }
 }

@@ -3,7 +3,7 @@ ghost use mathlib.Core.Path.{_≡_};
 ghost use mathlib.Core.List.{[]};
 ghost use Rattle.queue.specs.Queue.{queueOf, holding, enqueueRule, removeRule, batchRule, waitRule};
 ghost use Rattle.queue.specs.Time.{durationRule, secondsRule};
-ghost use Rattle.capi.specs.Numbers.{refusalOf};
+ghost use Rattle.base.specs.Numbers.{refusalOf};
 ghost use Rattle.base.specs.Refusals.{checkedOf};
 ghost use Rattle.capi.specs.Queues.{EnqueueNumbers, RemoveNumbers, BatchNumbers, waitNumbers, durationNumbers, secondsNumbers};
 use base::Checked;

@@ -1,7 +1,7 @@
 // The roster's checks, exported.
 ghost use mathlib.Core.Path.{_≡_};
 ghost use Rattle.roster.specs.Roster.{rosterCheck};
-ghost use Rattle.capi.specs.Numbers.{refusalOf};
+ghost use Rattle.base.specs.Numbers.{refusalOf};
 use crate::queues::refusal_number;
 
 // The refusal of the six columns, or 0.

@@ -1,6 +1,5 @@
 // Constraints and policy, exported.
 ghost use mathlib.Core.Path.{_≡_};
-ghost use mathlib.Core.List.{map};
 ghost use Rattle.roster.specs.Roster.{ofRatings, ofParties, ofRoles, ofRegions, ofRules};
 ghost use Rattle.matchmaker.specs.Quality.{teamOf, matchOf};
 ghost use Rattle.constraint.specs.Refusing.{verdictOf, sizesRule, rolesRule, partiesRule, latencyRule, regionsRule, constraintsRule, validityOf, validateRule};

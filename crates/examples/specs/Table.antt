@@ -28,11 +28,11 @@ use Rattle.constraint.specs.declared.Constraints.{Constraints}
 use Rattle.candidate.specs.Choices.{choices, ways}
 use Rattle.candidate.specs.Exhaustive.{exhaustiveMatches}
 use Rattle.choice.specs.Full.{terms, chosen}
-use Rattle.hall.specs.declared.KeyRecord.{KeyRecord}
-use Rattle.hall.specs.Hall.{HallState, hallWith, empty, book, withdraw, deal, answerIn, judge}
+use Rattle.hall.specs.Hall.{HallState, same, KeyRecord, hallWith, empty, book, withdraw, bookingAnswer, deal, answerIn, judge}
 use Rattle.hall.specs.Rounds as Rounds
-use Rattle.hall.specs.Calls as Calls
-use Rattle.hall.specs.Calls.{Call, keyed, Answer, answered, handed, step, after, answers, markOf, leave, thin}
+use Rattle.hall.specs.Rounds.{findings}
+use Rattle.demand.specs.Calls as Calls
+use Rattle.demand.specs.Calls.{Call, keyed, Answer, answered, handed, step, after, answers, markOf, leave, thin}
 use Rattle.search.specs.Beam.{expansions, stepped, steps, beamOf, beaming, beamMatches}
 use Rattle.search.specs.Greedy.{goesBefore, closer, nearest, filled, anchored, greedyMatches}
 
@@ -127,7 +127,7 @@ accepted = answered (gives tt)
 
 -- the note of a call that was accepted: key, kind and guest
 abbrev noted : ℕ → ℕ → ℕ → KeyRecord
-noted key kind player = record { key = key; player = player; kind = kind; answer = 0 }
+noted key kind player = record { key = key; content = record { kind = kind; player = player }; answer = 0 }
 
 -- which calls of a list are resends
 abbrev resends : List Call → List Bool
@@ -161,7 +161,7 @@ Holds (greedy s ms qs) = (greedyMatches s rostered guests ≡ ms) × (map (λ m.
 Holds (beam s width o) = beamMatches (beaming s width byQuality rostered guests 0) guests ≡ o
 Holds (exhaustive s queue ms) = exhaustiveMatches s queue ≡ ms
 Holds (full s queue os m n) = chosen (terms rostered unconstrained os (length os)) s queue ≡ gives (record { best = some m; tried = n })
-Holds (calls cs os n) = (answers empty cs ≡ map answered os) × (length (after empty cs .waiting .entries) ≡ n)
+Holds (calls cs os n) = (answers empty cs ≡ map answered os) × (length (after empty cs .waiting .bookings) ≡ n)
 Holds (story cs rs os h) = (resends cs ≡ rs) × ((answers empty cs ≡ os) × ((after empty cs ≡ h) × ((answers empty (thin rs cs) ≡ thin rs os) × (after empty (thin rs cs) ≡ h))))
 Holds (pick reference queue e) = nearest reference [] queue ≡ some e
 
@@ -206,5 +206,5 @@ lines =
     ∷ []
 
 pub at-the-table : All Holds lines
-unfolding qualityAt absOf minOf dominatesOf anyBelow seek keep observe observations averageFrom goesBefore closer grown filled anchored insertBy expansions stepped steps beamOf seats secondsOf longer scoreFrom choices ways step judge deal answerIn markOf removeFirst distinct weighted latencyAt mul add div sub lt le eq ne isNan ofInt ofBits round
+unfolding qualityAt absOf minOf dominatesOf anyBelow seek keep observe observations averageFrom goesBefore closer grown filled anchored insertBy expansions stepped steps beamOf seats secondsOf longer scoreFrom choices ways findings step judge bookingAnswer deal same answerIn markOf removeFirst distinct weighted latencyAt mul add div sub lt le eq ne isNan ofInt ofBits round
 at-the-table = (refl, (refl, (refl, (refl, (refl, (refl, ((refl, refl), ((refl, refl), (refl, (refl, (refl, (refl, (refl, (refl, ((refl, refl), ((refl, refl), ((refl, refl), ((refl, refl), ((refl, (refl, (refl, (refl, refl)))), (refl, (refl, (refl, (refl, tt)))))))))))))))))))))))

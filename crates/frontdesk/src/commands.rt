@@ -20,10 +20,10 @@ use crate::values::Kind;
 use crate::words;
 use crate::words::Heard;
 use base::Refusal;
+use capi::halls;
+use capi::halls::Keyed;
 use check::same;
-use hall::Booking;
 use hall::Hall;
-use hall::Keyed;
 
 // Serves a line, unless it is blank or a comment.
 pub fn serve(desk: Desk, text: &[u8], number: u64) -> Desk {
@@ -94,11 +94,11 @@ fn quit(desk: Desk, text: &[u8], heard: Heard) -> Desk {
 // Commands that change nothing, and those that are none.
 fn listings(hall: Hall, seated: u64, text: &[u8], heard: Heard, name: &[u8]) {
     if same(name, b"queue") {
-        listing::queue(hall.waiting, text, heard);
+        listing::queue(hall, text, heard);
         return;
     }
     if same(name, b"keys") {
-        listing::keys(hall.log, text, heard);
+        listing::keys(hall, text, heard);
         return;
     }
     if same(name, b"totals") {
@@ -190,14 +190,11 @@ fn book(desk: Desk, text: &[u8], heard: Heard) -> Desk {
         return desk;
     };
     let hall = desk.hall;
-    let booking = Booking {
-        player: entry.player,
-        joined: entry.joined,
-        rating: entry.rating,
-        party: entry.party,
-        role: entry.role,
-    };
-    told(desk, hall.book(given.whole(fields::KEY), booking))
+    let key = given.whole(fields::KEY);
+    told(
+        desk,
+        halls::yilgashe_hall_book(hall, key, entries::booking_of(entry)),
+    )
 }
 
 fn withdraw(desk: Desk, text: &[u8], heard: Heard) -> Desk {
@@ -207,13 +204,13 @@ fn withdraw(desk: Desk, text: &[u8], heard: Heard) -> Desk {
     }
     let hall = desk.hall;
     let key = given.whole(fields::KEY);
-    told(desk, hall.withdraw(key, given.whole(fields::GUEST)))
+    let guest = given.whole(fields::GUEST);
+    told(desk, halls::yilgashe_hall_withdraw(hall, key, guest))
 }
 
 // Says the answer of a keyed call, and keeps its hall.
 fn told(desk: Desk, keyed: Keyed) -> Desk {
     let hall = keyed.hall;
-    let answer = keyed.answer;
-    refusals::answer(answer, b"accepted\n");
+    refusals::answer(keyed.refusal);
     desk.with_hall(hall)
 }

@@ -1,7 +1,7 @@
 // What the desk keeps in the evening.
-use crate::goals::Goals;
 use crate::guests::Roster;
-use constraint::Constraints;
+use capi::rules::Constraints;
+use capi::scores::SoftObjectives;
 use hall::Hall;
 use queue::Queue;
 
@@ -10,7 +10,7 @@ pub struct Desk {
     pub roster: Roster,
     // For the next full rounds.
     pub rules: Constraints,
-    pub goals: Goals,
+    pub goals: SoftObjectives,
     // Exported by the old counter. No call of the hall looks at it.
     pub old: Queue,
     // Guests of every match that was handed out.
@@ -23,10 +23,10 @@ impl Desk {
     // The evening begins.
     pub fn fresh() -> Desk {
         Desk {
-            hall: Hall::empty(),
+            hall: capi::halls::yilgashe_hall_empty(),
             roster: Roster::empty(),
             rules: crate::rules::none(),
-            goals: Goals::none(),
+            goals: crate::goals::none(),
             old: Queue::empty(),
             seated: 0,
             open: true,
@@ -51,7 +51,7 @@ impl Desk {
         next
     }
 
-    pub fn with_goals(self, goals: Goals) -> Desk {
+    pub fn with_goals(self, goals: SoftObjectives) -> Desk {
         let mut next = self;
         next.goals = goals;
         next

@@ -5,6 +5,7 @@ use crate::fields;
 use crate::fields::Fields;
 use crate::guests::Roster;
 use crate::words::Heard;
+use hall::Booking;
 use queue::QueueEntry;
 use roster::Observed;
 
@@ -36,6 +37,17 @@ pub fn entry_of(roster: Roster, given: Fields, text: &[u8], heard: Heard) -> Ent
         party: given.whole_or(fields::PARTY, roster.party_of(guest)),
         role: commands::half(given.whole_or(fields::ROLE, roster.role_of(guest) as u64)),
     })
+}
+
+// What the hall takes for an entry.
+pub fn booking_of(entry: QueueEntry) -> Booking {
+    Booking {
+        player: entry.player,
+        joined: entry.joined,
+        rating: entry.rating,
+        party: entry.party,
+        role: entry.role,
+    }
 }
 
 // The rating that is given, or else the roster's.

@@ -1,4 +1,4 @@
-// What full rounds rank the choices by. An array of enums is no field of a struct: they are kept as kinds and weights.
+// What full rounds rank the choices by, kept as the hall takes it.
 use crate::complaints;
 use crate::fields;
 use crate::numbers;
@@ -8,63 +8,29 @@ use crate::refusals;
 use crate::words;
 use crate::words::Heard;
 use base::Refusal;
+use capi::scores::SoftObjectives;
 use check::same;
-use objective::soft::SoftObjective;
 
-// The first `count`. Kind 0 is skill, 1 latency, 2 wait.
-pub struct Goals {
-    pub kinds: [u8; 8],
-    pub weights: [f64; 8],
-    pub count: usize,
-}
-
-impl Goals {
-    pub fn none() -> Goals {
-        Goals {
-            kinds: [0; 8],
-            weights: [0.0; 8],
-            count: 0,
-        }
-    }
-
-    fn is_full(self) -> bool {
-        8 <= self.count
-    }
-
-    fn with(self, kind: u8, weight: f64) -> Goals {
-        let n = self.count;
-        let mut next = self;
-        if n < 8 {
-            next.kinds[n] = kind;
-            next.weights[n] = weight;
-            next.count = n + 1;
-        }
-        next
+pub fn none() -> SoftObjectives {
+    SoftObjectives {
+        kinds: [0; 8],
+        weights: [0.0; 8],
+        len: 0,
     }
 }
 
-fn objective(kind: u8, weight: f64) -> SoftObjective {
-    match kind {
-        0 => SoftObjective::Skill(weight),
-        1 => SoftObjective::Latency(weight),
-        _ => SoftObjective::Wait(weight),
+fn with(goals: SoftObjectives, kind: u8, weight: f64) -> SoftObjectives {
+    let n = goals.len;
+    let mut next = goals;
+    if n < 8 {
+        next.kinds[n] = kind;
+        next.weights[n] = weight;
+        next.len = n + 1;
     }
+    next
 }
 
-// All eight places, as the hall takes them.
-pub fn objectives(goals: Goals) -> [SoftObjective; 8] {
-    let kinds = goals.kinds;
-    let weights = goals.weights;
-    let mut out = [SoftObjective::Wait(0.0); 8];
-    let mut i: usize = 0;
-    while i < 8 {
-        out[i] = objective(kinds[i], weights[i]);
-        i += 1;
-    }
-    out
-}
-
-// The kind of a name, 3 for any other.
+// The kind of a name: 0 skill, 1 latency, 2 wait, 3 any other.
 fn kind_of(name: &[u8]) -> u8 {
     if same(name, b"skill") {
         return 0;
@@ -79,7 +45,7 @@ fn kind_of(name: &[u8]) -> u8 {
 }
 
 // `goal skill 1`: one goal more.
-pub fn goal(goals: Goals, text: &[u8], heard: Heard) -> Goals {
+pub fn goal(goals: SoftObjectives, text: &[u8], heard: Heard) -> SoftObjectives {
     let name = words::next(text, heard.behind());
     let kind = kind_of(words::bytes_of(text, name));
     if 2 < kind {
@@ -106,24 +72,24 @@ pub fn goal(goals: Goals, text: &[u8], heard: Heard) -> Goals {
     add(goals, kind, read.value)
 }
 
-fn add(goals: Goals, kind: u8, weight: f64) -> Goals {
-    if goals.is_full() {
+fn add(goals: SoftObjectives, kind: u8, weight: f64) -> SoftObjectives {
+    if 8 <= goals.len {
         refusals::refused(Refusal::OverLimit);
         return goals;
     }
     print::text(b"goal set\n");
-    goals.with(kind, weight)
+    with(goals, kind, weight)
 }
 
 // `goals` lists them, `goals none` drops them.
-pub fn listed(goals: Goals, text: &[u8], heard: Heard) -> Goals {
+pub fn listed(goals: SoftObjectives, text: &[u8], heard: Heard) -> SoftObjectives {
     let word = words::next(text, heard.behind());
     if same(words::bytes_of(text, word), b"none") {
         if !fields::end(text, heard, word.to) {
             return goals;
         }
         print::text(b"no goals\n");
-        return Goals::none();
+        return none();
     }
     if word.is_end() {
         list(goals);
@@ -150,10 +116,10 @@ fn line(kind: u8, weight: f64) {
     print::text(b"\n");
 }
 
-fn list(goals: Goals) {
+fn list(goals: SoftObjectives) {
     let kinds = goals.kinds;
     let weights = goals.weights;
-    let n = goals.count;
+    let n = goals.len;
     if n == 0 {
         print::text(b"no goals\n");
     }

@@ -1,59 +1,102 @@
 // The queue, the key book and the totals.
+use crate::entries;
 use crate::fields;
 use crate::print;
 use crate::refusals;
 use crate::words::Heard;
 use base::Refusal;
+use hall::Booking;
 use hall::Hall;
-use hall::KeyLog;
-use hall::KeyRecord;
+use hall::Note;
 use queue::Queue;
-use queue::QueueEntry;
 
 // ---- who waits
 
+enum Clock {
+    // A complaint was made, or the clock was refused.
+    Nothing,
+    At(u64),
+}
+
 // `queue at 120s`
-pub fn queue(waiting: Queue, text: &[u8], heard: Heard) {
+fn clock_of(text: &[u8], heard: Heard) -> Clock {
     let given = fields::read(text, heard, heard.behind(), fields::AT, fields::AT);
     if !given.ok {
-        return;
+        return Clock::Nothing;
     }
     let clock = given.whole(fields::AT);
     if queue::time::is_late(clock) {
         refusals::refused(Refusal::Clock);
-        return;
+        return Clock::Nothing;
     }
-    waiters(waiting, clock);
+    Clock::At(clock)
 }
 
-// One entry's line.
-fn waiter(place: usize, entry: QueueEntry, clock: u64) {
-    print::whole(place as u64, 7);
-    print::whole(entry.player, 12);
-    print::real(entry.rating, 2, 12);
-    print::whole(entry.party, 8);
-    print::whole(entry.role as u64, 8);
-    print::wait(queue::time::elapsed(clock, entry.joined), 12);
-    print::text(b"\n");
+// Who waits in the hall.
+pub fn queue(hall: Hall, text: &[u8], heard: Heard) {
+    let read = clock_of(text, heard);
+    let Clock::At(clock) = read else {
+        return;
+    };
+    let bookings = hall.bookings;
+    let n = hall.waiting;
+    head(n);
+    waiters(bookings, n, clock);
 }
 
-fn waiters(waiting: Queue, clock: u64) {
-    let entries = waiting.entries;
-    let n = waiting.len;
+// Who waits in a queue of the old counter.
+pub fn old_queue(old: Queue, text: &[u8], heard: Heard) {
+    let read = clock_of(text, heard);
+    let Clock::At(clock) = read else {
+        return;
+    };
+    head(old.len);
+    old_waiters(old, clock);
+}
+
+fn head(n: usize) {
     if n == 0 {
         print::text(b"nobody waits\n");
         return;
     }
     print::text(b"  place       guest      rating   party    role      waited\n");
+}
+
+// One booking's line.
+fn waiter(place: usize, booking: Booking, clock: u64) {
+    print::whole(place as u64, 7);
+    print::whole(booking.player, 12);
+    print::real(booking.rating, 2, 12);
+    print::whole(booking.party, 8);
+    print::whole(booking.role as u64, 8);
+    print::wait(queue::time::elapsed(clock, booking.joined), 12);
+    print::text(b"\n");
+}
+
+fn waiters(bookings: [Booking; 64], n: usize, clock: u64) {
     let mut i: usize = 0;
     while i < 64 {
-        if i < n {
-            let entry = entries[i];
-            waiter(i + 1, entry, clock);
-            i += 1;
-        } else {
-            i += 1;
+        if n <= i {
+            return;
         }
+        let booking = bookings[i];
+        waiter(i + 1, booking, clock);
+        i += 1;
+    }
+}
+
+// An entry's line is that of its booking.
+fn old_waiters(old: Queue, clock: u64) {
+    let queued = old.entries;
+    let n = old.len;
+    let mut i: usize = 0;
+    while i < 64 {
+        if n <= i {
+            return;
+        }
+        let entry = queued[i];
+        waiter(i + 1, entries::booking_of(entry), clock);
+        i += 1;
     }
 }
 
@@ -66,25 +109,27 @@ fn call(kind: u8) {
     }
 }
 
-// One record's line.
-fn noted(record: KeyRecord) {
-    print::whole(record.key, 12);
-    call(record.kind);
-    print::whole(record.player, 12);
+// One key's line.
+fn noted(key: u64, note: Note) {
+    print::whole(key, 12);
+    call(note.kind);
+    print::whole(note.player, 12);
     print::text(b"  ");
-    refusals::noted(record.answer);
+    refusals::noted(note.answer);
     print::text(b"\n");
 }
 
-pub fn keys(log: KeyLog, text: &[u8], heard: Heard) {
+pub fn keys(hall: Hall, text: &[u8], heard: Heard) {
     if fields::end(text, heard, heard.behind()) {
-        records(log);
+        book(hall);
     }
 }
 
-fn records(log: KeyLog) {
-    let records = log.records;
-    let n = log.len;
+// Each key with the note at its place.
+fn book(hall: Hall) {
+    let keys = hall.keys;
+    let notes = hall.notes;
+    let n = hall.noted;
     if n == 0 {
         print::text(b"no keys\n");
         return;
@@ -95,8 +140,8 @@ fn records(log: KeyLog) {
         if n <= i {
             return;
         }
-        let record = records[i];
-        noted(record);
+        let note = notes[i];
+        noted(keys[i], note);
         i += 1;
     }
 }
@@ -104,25 +149,23 @@ fn records(log: KeyLog) {
 // ---- the sum of demand 3
 
 // Is it an accepted call of this kind?
-fn is_accepted(record: KeyRecord, kind: u8) -> bool {
-    if record.answer != 0 {
+fn is_accepted(note: Note, kind: u8) -> bool {
+    if note.answer != 0 {
         return false;
     }
-    record.kind == kind
+    note.kind == kind
 }
 
-// How many accepted calls of a kind the key book has.
-fn accepted(log: KeyLog, kind: u8) -> u64 {
-    let records = log.records;
-    let n = log.len;
+// How many of the first n notes are of accepted calls of a kind.
+fn accepted(notes: [Note; 1024], n: usize, kind: u8) -> u64 {
     let mut count: u64 = 0;
     let mut i: usize = 0;
     while i < 1024 {
         if n <= i {
             return count;
         }
-        let record = records[i];
-        if is_accepted(record, kind) {
+        let note = notes[i];
+        if is_accepted(note, kind) {
             count = std::num::wrapping_add_u64(count, 1);
             i += 1;
         } else {
@@ -133,13 +176,13 @@ fn accepted(log: KeyLog, kind: u8) -> u64 {
 }
 
 pub fn totals(hall: Hall, seated: u64, text: &[u8], heard: Heard) {
-    let log = hall.log;
-    let waiting = hall.waiting;
+    let notes = hall.notes;
+    let n = hall.noted;
     if fields::end(text, heard, heard.behind()) {
         sum(
-            accepted(log, 0),
-            waiting.len as u64,
-            accepted(log, 1),
+            accepted(notes, n, 0),
+            hall.waiting as u64,
+            accepted(notes, n, 1),
             seated,
         );
     }

@@ -15,6 +15,7 @@ use crate::tables;
 use crate::tables::Before;
 use crate::words;
 use crate::words::Heard;
+use base::Checked;
 use base::Refusal;
 use check::same;
 use queue::Enqueued;
@@ -44,7 +45,7 @@ pub fn serve(desk: Desk, text: &[u8], line: Heard) -> Desk {
 // Commands that change nothing, and those that are none.
 fn listings(desk: Desk, text: &[u8], heard: Heard, name: &[u8]) {
     if same(name, b"queue") {
-        listing::queue(desk.old, text, heard);
+        listing::old_queue(desk.old, text, heard);
         return;
     }
     if same(name, b"greedy") {
@@ -90,7 +91,10 @@ fn entry(desk: Desk, text: &[u8], heard: Heard) -> Desk {
 fn added(desk: Desk, enqueued: Enqueued) -> Desk {
     let old = enqueued.queue;
     let answer = enqueued.answer;
-    refusals::answer(answer, b"entry added\n");
+    match answer {
+        Checked::Passed => print::text(b"entry added\n"),
+        Checked::Refused(refusal) => refusals::refused(refusal),
+    }
     desk.with_old(old)
 }
 
@@ -124,7 +128,12 @@ fn show(desk: Desk, search: Search, asked: Asked) {
         roster: roster,
         clock: asked.clock,
     };
-    tables::print(before, sizes, formed, &players);
+    match formed {
+        Formed::Refused(refusal) => refusals::refused(refusal),
+        Formed::Count(count) => {
+            tables::print(before, sizes, count, &players);
+        }
+    }
 }
 
 fn found(roster: Roster, old: Queue, search: Search, asked: Asked, players: &mut [u64]) -> Formed {

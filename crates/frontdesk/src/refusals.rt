@@ -1,62 +1,65 @@
-// Document 01's refusals, in its words.
+// Document 01's refusals, by their numbers and in its words.
 use crate::print;
-use base::Checked;
 use base::Refusal;
 
 // The first six of the table.
-fn word(refusal: Refusal) {
-    match refusal {
-        Refusal::OverLimit => print::text(b"over limit"),
-        Refusal::BadRoster => print::text(b"bad roster"),
-        Refusal::ShortSheet => print::text(b"short sheet"),
-        Refusal::Clock => print::text(b"clock"),
-        Refusal::Unranked => print::text(b"unranked"),
-        Refusal::TooWide => print::text(b"too wide"),
-        _ => later_word(refusal),
+fn word(number: u8) {
+    match number {
+        1 => print::text(b"over limit"),
+        2 => print::text(b"bad roster"),
+        3 => print::text(b"short sheet"),
+        4 => print::text(b"clock"),
+        5 => print::text(b"unranked"),
+        6 => print::text(b"too wide"),
+        _ => later_word(number),
     }
 }
 
 // The other six.
-fn later_word(refusal: Refusal) {
-    match refusal {
-        Refusal::KeyClash => print::text(b"key clash"),
-        Refusal::BookFull => print::text(b"book full"),
-        Refusal::AlreadyWaiting => print::text(b"already waiting"),
-        Refusal::HallFull => print::text(b"hall full"),
-        Refusal::NotWaiting => print::text(b"not waiting"),
+fn later_word(number: u8) {
+    match number {
+        7 => print::text(b"key clash"),
+        8 => print::text(b"book full"),
+        9 => print::text(b"already waiting"),
+        10 => print::text(b"hall full"),
+        11 => print::text(b"not waiting"),
         _ => print::text(b"no seats"),
     }
 }
 
 // `9 already waiting`
-pub fn numbered(refusal: Refusal) {
-    io::print_decimal(1, refusal.number() as u64);
+fn numbered(number: u8) {
+    io::print_decimal(1, number as u64);
     print::text(b" ");
-    word(refusal);
+    word(number);
 }
 
-// `refused: 9 already waiting`
-pub fn refused(refusal: Refusal) {
+// `refused: 9 already waiting`, of a call that answers in numbers.
+pub fn refused_by(number: u8) {
     print::text(b"refused: ");
-    numbered(refusal);
+    numbered(number);
     print::text(b"\n");
 }
 
-// The line for what passed, such as `accepted`, or the refusal.
-pub fn answer(answer: Checked, passed: &[u8]) {
-    match answer {
-        Checked::Passed => print::text(passed),
-        Checked::Refused(refusal) => refused(refusal),
-    }
+// The same of a refusal by name.
+pub fn refused(refusal: Refusal) {
+    refused_by(refusal.number());
 }
 
-// The answer that a key's record holds: 0 accepted, 4, 9, 10 and 11 the refusals that are noted.
-pub fn noted(answer: u8) {
-    match answer {
-        0 => print::text(b"accepted"),
-        4 => numbered(Refusal::Clock),
-        9 => numbered(Refusal::AlreadyWaiting),
-        10 => numbered(Refusal::HallFull),
-        _ => numbered(Refusal::NotWaiting),
+// `accepted` where the number is 0, or the refusal.
+pub fn answer(number: u8) {
+    if number == 0 {
+        print::text(b"accepted\n");
+        return;
     }
+    refused_by(number);
+}
+
+// The answer that stands beside a key: 0 accepted, or a refusal's number.
+pub fn noted(answer: u8) {
+    if answer == 0 {
+        print::text(b"accepted");
+        return;
+    }
+    numbered(answer);
 }

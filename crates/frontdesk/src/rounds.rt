@@ -4,21 +4,23 @@ use crate::counts;
 use crate::desk::Desk;
 use crate::fields;
 use crate::fields::Fields;
-use crate::goals;
-use crate::goals::Goals;
 use crate::guests::Roster;
 use crate::numbers::Problem;
 use crate::print;
+use crate::refusals;
 use crate::tables;
 use crate::tables::Before;
 use crate::values;
 use crate::words;
 use crate::words::Heard;
-use constraint::Constraints;
+use capi::halls;
+use capi::halls::Rounded;
+use capi::rules::Constraints;
+use capi::scores::SoftObjectives;
 use hall::Hall;
-use hall::rounds::Rounded;
+use hall::waiting;
 use objective::score::MatchObjective;
-use seating::Formed;
+use search::beam::BeamSearch;
 use seating::TeamComposition;
 
 pub const TIMED: u32 = fields::AT;
@@ -91,7 +93,8 @@ fn greedy_over(roster: Roster, hall: Hall, asked: Asked, players: &mut [u64]) ->
     let ratings = roster.ratings;
     let m = counts::reals(roster.rows, &ratings);
     let mut qualities = [0.0f64; 64];
-    hall.greedy_round(
+    halls::yilgashe_hall_greedy_round(
+        hall,
         sizes,
         asked.clock,
         &ids[..n],
@@ -115,6 +118,7 @@ pub fn beam(desk: Desk, text: &[u8], heard: Heard) -> Desk {
 fn beam_over(roster: Roster, hall: Hall, asked: Asked, players: &mut [u64]) -> Rounded {
     let sizes = asked.sizes;
     let objective = asked.objective;
+    let search = BeamSearch { width: asked.width };
     let ids = roster.ids;
     let n = counts::wholes(roster.rows, &ids);
     let ratings = roster.ratings;
@@ -122,9 +126,10 @@ fn beam_over(roster: Roster, hall: Hall, asked: Asked, players: &mut [u64]) -> R
     let deviations = roster.deviations;
     let k = counts::reals(roster.rows, &deviations);
     let mut qualities = [0.0f64; 64];
-    hall.beam_round(
+    halls::yilgashe_hall_beam_round(
+        hall,
+        search,
         sizes,
-        asked.width,
         objective,
         asked.clock,
         &ids[..n],
@@ -172,7 +177,7 @@ fn full_over(
     hall: Hall,
     sizes: TeamComposition,
     rules: Constraints,
-    goals: Goals,
+    goals: SoftObjectives,
     clock: u64,
     players: &mut [u64],
     qualities: &mut [f64],
@@ -187,11 +192,11 @@ fn full_over(
     let l = counts::halves(roster.rows, &roles);
     let regions = roster.regions;
     let o = counts::bytes(roster.rows, &regions);
-    hall.full_round(
+    halls::yilgashe_hall_full_round(
+        hall,
         sizes,
         rules,
-        goals::objectives(goals),
-        goals.count,
+        goals,
         clock,
         &ids[..n],
         &ratings[..m],
@@ -205,9 +210,8 @@ fn full_over(
 
 // How many choices a full round tried, unless it was refused.
 fn tell_tried(rounded: Rounded) {
-    let answer = rounded.answer;
     let tried = rounded.tried;
-    if let Formed::Count(count) = answer {
+    if rounded.refusal == 0 {
         print::text(b"tried ");
         io::print_decimal(1, tried);
         if tried == 1 {
@@ -218,19 +222,22 @@ fn tell_tried(rounded: Rounded) {
     }
 }
 
-// Says what the round gave, and keeps its hall. The waits are those of the queue before the round.
+// Says what the round gave, and keeps its hall. The waits are of those who waited before the round. One that is refused changes nothing.
 fn seated(desk: Desk, rounded: Rounded, asked: Asked, players: &[u64]) -> Desk {
+    if rounded.refusal != 0 {
+        refusals::refused_by(rounded.refusal);
+        return desk;
+    }
     let hall = desk.hall;
-    let waiting = hall.waiting;
+    let bookings = hall.bookings;
     let roster = desk.roster;
     let sizes = asked.sizes;
     let before = Before {
-        waiting: waiting,
+        waiting: waiting::eligible(bookings, hall.waiting),
         roster: roster,
         clock: asked.clock,
     };
-    let answer = rounded.answer;
-    let guests = tables::print(before, sizes, answer, players);
+    let guests = tables::print(before, sizes, rounded.count, players);
     let next = desk.with_hall(rounded.hall);
     next.with_seated(guests)
 }

@@ -10,14 +10,13 @@ use crate::values;
 use crate::words;
 use crate::words::Heard;
 use base::Refusal;
+use capi::rules::Constraints;
+use capi::rules::RoleRequirement;
+use capi::rules::RoleRequirements;
 use check::same;
 use constraint::Brought;
-use constraint::Constraints;
 use constraint::regions::RegionConstraint;
 use constraint::regions::RegionPair;
-use constraint::roles::Maximum;
-use constraint::roles::RoleConstraint;
-use constraint::roles::RoleRequirement;
 use constraint::sizes::TeamSizeConstraint;
 
 // No constraint at all.
@@ -25,7 +24,8 @@ pub fn none() -> Constraints {
     let nobody = RoleRequirement {
         role: 0,
         least: 0,
-        most: Maximum::Unbounded,
+        bounded: false,
+        most: 0,
     };
     let pair = RegionPair {
         first: 0,
@@ -40,9 +40,9 @@ pub fn none() -> Constraints {
             regions: false,
         },
         sizes: TeamSizeConstraint { a: 0, b: 0 },
-        roles: RoleConstraint {
-            requirements: [nobody; 8],
-            count: 0,
+        roles: RoleRequirements {
+            items: [nobody; 8],
+            len: 0,
         },
         regions: RegionConstraint {
             pairs: [pair; 16],
@@ -139,7 +139,7 @@ fn role(rules: Constraints, text: &[u8], heard: Heard, at: usize) -> Constraints
     }
     let mut next = rules;
     let roles = rules.roles;
-    let n = roles.count;
+    let n = roles.len;
     if 8 <= n {
         refusals::refused(Refusal::OverLimit);
         return rules;
@@ -155,26 +155,20 @@ fn requirement(given: Fields) -> RoleRequirement {
     RoleRequirement {
         role: commands::half(given.whole(fields::ROLE)),
         least: given.whole(fields::AT_LEAST) as usize,
-        most: maximum(given),
+        bounded: given.has(fields::AT_MOST),
+        most: given.whole(fields::AT_MOST) as usize,
     }
-}
-
-fn maximum(given: Fields) -> Maximum {
-    if given.has(fields::AT_MOST) {
-        return Maximum::AtMost(given.whole(fields::AT_MOST) as usize);
-    }
-    Maximum::Unbounded
 }
 
 fn with_requirement(
-    roles: RoleConstraint,
+    roles: RoleRequirements,
     n: usize,
     requirement: RoleRequirement,
-) -> RoleConstraint {
+) -> RoleRequirements {
     let mut next = roles;
     if n < 8 {
-        next.requirements[n] = requirement;
-        next.count = n + 1;
+        next.items[n] = requirement;
+        next.len = n + 1;
     }
     next
 }
@@ -280,21 +274,20 @@ fn list_sizes(sizes: TeamSizeConstraint) {
 }
 
 fn list_role(requirement: RoleRequirement) {
-    let most = requirement.most;
     print::text(b"rule role ");
     io::print_decimal(1, requirement.role as u64);
     print::text(b" at-least ");
     io::print_decimal(1, requirement.least as u64);
-    if let Maximum::AtMost(limit) = most {
+    if requirement.bounded {
         print::text(b" at-most ");
-        io::print_decimal(1, limit as u64);
+        io::print_decimal(1, requirement.most as u64);
     }
     print::text(b"\n");
 }
 
-fn list_roles(roles: RoleConstraint) {
-    let requirements = roles.requirements;
-    let n = roles.count;
+fn list_roles(roles: RoleRequirements) {
+    let requirements = roles.items;
+    let n = roles.len;
     let mut i: usize = 0;
     while i < 8 {
         if i < n {

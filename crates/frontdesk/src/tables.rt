@@ -2,13 +2,11 @@
 use crate::counts;
 use crate::guests::Roster;
 use crate::print;
-use crate::refusals;
 use matchmaker::ProposedMatch;
 use matchmaker::Team;
 use queue::Queue;
 use queue::Waited;
 use roster::Observed;
-use seating::Formed;
 use seating::TeamComposition;
 
 // What the blocks are made from: the queue as it was before the round, the roster and the clock.
@@ -138,18 +136,10 @@ fn each(before: Before, sizes: TeamComposition, count: usize, players: &[u64]) -
     at as u64
 }
 
-// Every table, or that there is none, or the refusal; and how many guests they seat.
-pub fn print(before: Before, sizes: TeamComposition, formed: Formed, players: &[u64]) -> u64 {
-    match formed {
-        Formed::Refused(refusal) => {
-            refusals::refused(refusal);
-            0
-        }
-        Formed::Count(count) => {
-            if count == 0 {
-                print::text(b"no table\n");
-            }
-            each(before, sizes, count, players)
-        }
+// Every table, or that there is none; and how many guests they seat.
+pub fn print(before: Before, sizes: TeamComposition, count: usize, players: &[u64]) -> u64 {
+    if count == 0 {
+        print::text(b"no table\n");
     }
+    each(before, sizes, count, players)
 }

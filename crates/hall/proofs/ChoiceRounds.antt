@@ -1,10 +1,11 @@
 -- Laws of the full round over plain lists: its check, its choice, and the choice on the sheets.
-use Prim.Native.Nat.{ℕ, _+_, _≤_}
+use Prim.Native.Nat.{ℕ, _*_, _≤_}
 use mathlib.Core.Path.{_≡_, refl, sym, ap, _∙_}
 use mathlib.Core.Bool.{Bool, true, false, cond, _||_}
-use mathlib.Core.List.{List, [], _∷_, _++_, append-nil}
+use mathlib.Core.List.{List, [], _∷_, _++_, map, append-nil}
 use mathlib.Core.Option.{Option, none, some}
 use native.Mathlib.Nat.{not-suc-le-zero}
+use native.Mathlib.Omega.{arith}
 use borrow.Author.Tests.{ltb-false}
 use lib.Dec.{ltb}
 use lib.Ieee.{Float}
@@ -18,8 +19,7 @@ use Rattle.base.specs.Refusals.{Outcome, refused, gives, guarded, refusalNumber
 use Rattle.base.proofs.Cases.{never}
 use Rattle.base.proofs.Checks.{neither, guard-refuses, guard-passes, passed-to}
 use Rattle.queue.specs.Time.{late}
-use Rattle.queue.specs.Queue.{QueueState, isLate, holding, withoutAll}
-use Rattle.queue.proofs.Laws.{none-named}
+use Rattle.queue.specs.Queue.{QueueState, holding}
 use Rattle.roster.specs.Roster.{Roster, rulesCheck}
 use Rattle.matchmaker.specs.Quality.{MatchState, seated}
 use Rattle.objective.specs.declared.soft.SoftObjective.{SoftObjective}
@@ -32,56 +32,57 @@ use Rattle.seating.proofs.Laws.{sizes-in, overlaid-fits}
 use Rattle.candidate.specs.Exhaustive.{tooWide}
 use Rattle.choice.specs.Full.{Terms, Selection, terms, chosen, choiceCheck, choiceRule}
 use Rattle.choice.proofs.FullLaws.{chosen-best}
-use Rattle.hall.specs.Hall.{HallState, isOver}
-use Rattle.hall.specs.Rounds.{full, RoundCall, listOf, selected, roundFound}
-use Rattle.hall.specs.Steps.{departed, fullCheck, matchesFrom, turnFrom}
-use Rattle.hall.proofs.RoundLaws.{seats-leave}
+use Rattle.hall.specs.Hall.{hasLate, entryOf}
+use Rattle.hall.specs.Rounds.{full, RoundCall, calling, listOf, selected, findings, matchesFrom}
+use Rattle.hall.specs.Steps.{fullCheck, HandedNumbers, FoundNumbers}
+use Rattle.hall.specs.declared.Booking.{Booking}
+use Rattle.hall.specs.declared.rounds.Handed.{Handed}
+use Rattle.hall.proofs.RoundLaws.{refusing, handed-refused, handed-given, entries-fit, entries-late}
 
 -- ---- the check
 
 -- over a limit
-abbrev pub over : HallState → TeamComposition → Constraints → ℕ → Bool
-over h s c count = isOver h || (sizesOver s || (constraintsOver c || ltb 8 count))
+abbrev pub over : TeamComposition → Constraints → ℕ → Bool
+over s c count = sizesOver s || (constraintsOver c || ltb 8 count)
 
-module _ (h : HallState) (s : TeamComposition) (c : Constraints) (count : ℕ) (r : Roster) (clock players qualities : ℕ) where
+module _ (s : TeamComposition) (c : Constraints) (count : ℕ) (r : Roster) (clock players qualities : ℕ) where
   -- what is checked behind the columns and the pairs
   abbrev timely : Outcome Unit
   timely = cond (areShort players qualities) (refused 3) (cond (late clock) (refused 4) (gives tt))
 
   -- over a limit
-  pub refuses-1 : over h s c count ≡ true → refused 1 ≡ fullCheck h s c count r clock players qualities
+  pub refuses-1 : over s c count ≡ true → refused 1 ≡ fullCheck s c count r clock players qualities
   refuses-1 e = rw e
 
-  module _ (in-limits : over h s c count ≡ false) (k : Checked) (g : checkedOf k ≡ rulesCheck r) where
+  module _ (in-limits : over s c count ≡ false) (k : Checked) (g : checkedOf k ≡ rulesCheck r) where
     -- the columns of the roster
-    pub refuses-columns : {x : Refusal} → k ≡ Refused x → refused (refusalNumber x) ≡ fullCheck h s c count r clock players qualities
+    pub refuses-columns : {x : Refusal} → k ≡ Refused x → refused (refusalNumber x) ≡ fullCheck s c count r clock players qualities
     refuses-columns e = rw in-limits (guard-refuses (guarded (broughtPairsCheck c) timely) k e g)
 
     module _ (passed : k ≡ Passed) (j : Checked) (f : checkedOf j ≡ broughtPairsCheck c) where
       -- the constraints' pairs
-      pub refuses-pairs : {x : Refusal} → j ≡ Refused x → refused (refusalNumber x) ≡ fullCheck h s c count r clock players qualities
+      pub refuses-pairs : {x : Refusal} → j ≡ Refused x → refused (refusalNumber x) ≡ fullCheck s c count r clock players qualities
       refuses-pairs e = rw in-limits (guard-refuses timely j e f ∙ guard-passes (guarded (broughtPairsCheck c) timely) k passed g)
 
       module _ (fine : j ≡ Passed) where
         -- what comes behind both
-        behind : {o : Outcome Unit} → o ≡ timely → o ≡ fullCheck h s c count r clock players qualities
+        behind : {o : Outcome Unit} → o ≡ timely → o ≡ fullCheck s c count r clock players qualities
         behind e = rw in-limits (e ∙ guard-passes timely j fine f ∙ guard-passes (guarded (broughtPairsCheck c) timely) k passed g)
 
         -- short sheets
-        pub refuses-3 : areShort players qualities ≡ true → refused 3 ≡ fullCheck h s c count r clock players qualities
+        pub refuses-3 : areShort players qualities ≡ true → refused 3 ≡ fullCheck s c count r clock players qualities
         refuses-3 e = behind (rw e)
 
         -- a late clock
-        pub refuses-4 : areShort players qualities ≡ false → late clock ≡ true → refused 4 ≡ fullCheck h s c count r clock players qualities
+        pub refuses-4 : areShort players qualities ≡ false → late clock ≡ true → refused 4 ≡ fullCheck s c count r clock players qualities
         refuses-4 e l = behind (rw (e, l))
 
         -- neither
-        pub passes-all : areShort players qualities ≡ false → late clock ≡ false → gives tt ≡ fullCheck h s c count r clock players qualities
+        pub passes-all : areShort players qualities ≡ false → late clock ≡ false → gives tt ≡ fullCheck s c count r clock players qualities
         passes-all e l = behind (rw (e, l))
 
 -- what the check tells by passing
-pub record Held (h : HallState) (s : TeamComposition) (players qualities : ℕ) : Type 0 where
-  pub waiting : h .waiting .size ≤ 64
+pub record Held (s : TeamComposition) (players qualities : ℕ) : Type 0 where
   pub a : s .a ≤ 8
   pub b : s .b ≤ 8
   pub players-fit : 64 ≤ players
@@ -96,61 +97,97 @@ passing false (gives v) (gives w) true l e = never cc
 passing false (gives v) (gives w) false l e = (refl, refl)
 
 -- the limits hold
-pub held : (h : HallState) (s : TeamComposition) (c : Constraints) (count : ℕ) (r : Roster) (clock players qualities : ℕ) {k : Checked} → k ≡ Passed → checkedOf k ≡ fullCheck h s c count r clock players qualities → Held h s players qualities
-held h s c count r clock players qualities e g =
-    let p = passing (over h s c count) (rulesCheck r) (broughtPairsCheck c) (areShort players qualities) (late clock) (sym (ap checkedOf e) ∙ g) in
-    let o = neither (isOver h) (sizesOver s || (constraintsOver c || ltb 8 count)) (p .0) in
-    let w = neither (ltb 64 (h .waiting .size)) (ltb 1024 (h .log .size)) (o .0) in
-    let z = sizes-in s (neither (sizesOver s) (constraintsOver c || ltb 8 count) (o .1) .0) in
+pub held : (s : TeamComposition) (c : Constraints) (count : ℕ) (r : Roster) (clock players qualities : ℕ) {k : Checked} → k ≡ Passed → checkedOf k ≡ fullCheck s c count r clock players qualities → Held s players qualities
+held s c count r clock players qualities e g =
+    let p = passing (over s c count) (rulesCheck r) (broughtPairsCheck c) (areShort players qualities) (late clock) (sym (ap checkedOf e) ∙ g) in
+    let z = sizes-in s (neither (sizesOver s) (constraintsOver c || ltb 8 count) (p .0) .0) in
     let y = neither (ltb players 64) (ltb qualities 64) (p .1) in
     record {
-      waiting = ltb-false 64 (h .waiting .size) (w .0);
       a = z .0;
       b = z .1;
       players-fit = ltb-false players 64 (y .0);
       qualities-fit = ltb-false qualities 64 (y .1);
     }
 
+-- ---- the choice on the sheets
+
+-- a first place that is written
+set-first : (xs : List Float) (x : Float) → 1 ≤ length xs → set xs 0 x ≡ x ∷ drop 1 xs
+set-first [] x h = absurd (not-suc-le-zero h)
+set-first (y ∷ xs) x h = refl
+
+-- a full round gives quality 0.0
+abbrev quality : MatchState → Float
+quality m = Floats.zero
+
+module _ (sheets : Sheets) {v : Outcome Selection} where
+  -- a refusal
+  pub choice-refused : (x : Refusal) → v ≡ refused (refusalNumber x) → {r : Handed} → r ≡ refusing x → HandedNumbers quality sheets (selected v) r (sheets .players) (sheets .qualities)
+  choice-refused x e g = handed-refused quality sheets x (ap selected e) g
+
+  -- no choice passes
+  pub choice-none : {n : ℕ} → v ≡ gives (record { best = none; tried = n }) → HandedNumbers quality sheets (selected v) (record { count = 0; seats = 0; tried = n; refusal = 0 }) (sheets .players) (sheets .qualities)
+  unfolding seats
+  choice-none {n} e = rw e (record { handed = refl; count = refl; tried = refl; fits = omega arith; seated = refl })
+
+  -- a choice stands on the sheets
+  pub choice-given : (m : MatchState) {n each : ℕ} → v ≡ gives (record { best = some m; tried = n }) → All (λ x. length (seated x) ≡ each) (matchesFrom (selected v)) → each ≤ length (sheets .players) → 1 ≤ length (sheets .qualities) → {ps : List ℕ} {qs : List Float} → ps ≡ overlaid (seated m) (sheets .players) → qs ≡ set (sheets .qualities) 0 Floats.zero → HandedNumbers quality sheets (selected v) (record { count = 1; seats = each; tried = n; refusal = 0 }) ps qs
+  unfolding seats
+  choice-given m {n} {each} e sized room space {ps} {qs} p q =
+      let one : All (λ x. length (seated x) ≡ each) (m ∷ []) = rw e at sized in
+      let fits : length (seated m) ≤ length (sheets .players) = rw (one .0) room in
+      let a : ps ≡ seated m ++ drop (length (seated m)) (sheets .players) = p ∙ overlaid-fits (seated m) (sheets .players) fits in
+      let b : qs ≡ Floats.zero ∷ drop 1 (sheets .qualities) = q ∙ set-first (sheets .qualities) Floats.zero space in
+      let h : record { answer = gives 1; sheets = record { players = ps; qualities = qs } } ≡ handedOut quality (gives (m ∷ [])) sheets = rw (append-nil (seated m), a, b) in
+      let k : 1 * each ≡ each = omega arith in
+      rw k at (handed-given quality sheets (m ∷ []) each one h n (ap selected e))
+
 -- ---- the check and the choice's own are those of the round
 
 -- test by test
-chain : (w l ov : Bool) (o p : Outcome Unit) (sh lc le wide : Bool) (v : Outcome Selection) →
-    cond (w || l) (refused 1) (guarded (cond ov (refused 1) (guarded (guarded o p) (cond sh (refused 3) (cond (lc || le) (refused 4) (cond wide (refused 6) (gives tt)))))) (selected v))
-    ≡ guarded (cond ((w || l) || ov) (refused 1) (guarded o (guarded p (cond sh (refused 3) (cond lc (refused 4) (gives tt))))))
+chain : (w ov : Bool) (o p : Outcome Unit) (sh lc le wide : Bool) (v : Outcome Selection) → w ≡ false →
+    guarded (cond ov (refused 1) (guarded (guarded o p) (cond sh (refused 3) (cond (lc || le) (refused 4) (cond wide (refused 6) (gives tt)))))) (selected v)
+    ≡ guarded (cond ov (refused 1) (guarded o (guarded p (cond sh (refused 3) (cond lc (refused 4) (gives tt))))))
     (selected (guarded (cond (w || ov) (refused 1) (guarded o (guarded p (cond le (refused 4) (cond wide (refused 6) (gives tt)))))) v))
-chain true l ov o p sh lc le wide v = refl
-chain false true ov o p sh lc le wide v = refl
-chain false false true o p sh lc le wide v = refl
-chain false false false (refused n) p sh lc le wide v = refl
-chain false false false (gives u) (refused n) sh lc le wide v = refl
-chain false false false (gives u) (gives x) true lc le wide v = refl
-chain false false false (gives u) (gives x) false true le wide v = refl
-chain false false false (gives u) (gives x) false false true wide v = refl
-chain false false false (gives u) (gives x) false false false true v = refl
-chain false false false (gives u) (gives x) false false false false v = refl
+chain true ov o p sh lc le wide v e = never cc
+chain false true o p sh lc le wide v e = refl
+chain false false (refused n) p sh lc le wide v e = refl
+chain false false (gives u) (refused n) sh lc le wide v e = refl
+chain false false (gives u) (gives x) true lc le wide v e = refl
+chain false false (gives u) (gives x) false true le wide v e = refl
+chain false false (gives u) (gives x) false false true wide v e = refl
+chain false false (gives u) (gives x) false false false true v e = refl
+chain false false (gives u) (gives x) false false false false v e = refl
 
-module _ (h : HallState) (s : TeamComposition) (c : Constraints) (objectives : List SoftObjective) (count : ℕ) (r : Roster) (clock : ℕ) (sheets : Sheets) where
+module _ (s : TeamComposition) (c : Constraints) (objectives : List SoftObjective) (count : ℕ) (r : Roster) (clock : ℕ) (sheets : Sheets) (ws : List Booking) (few : length ws ≤ 64) where
   -- the terms and the call
   abbrev given : Terms
   given = terms r c objectives count
 
   abbrev call : RoundCall
-  call = record { round = full s given; clock = clock; sheets = sheets }
+  call = calling (full s given) clock (sheets .players) (sheets .qualities)
+
+  abbrev queue : QueueState
+  queue = holding (map entryOf ws)
 
   -- what is found stands behind the check
-  full-found : roundFound h call ≡ guarded (fullCheck h s c count r clock (length (sheets .players)) (length (sheets .qualities))) (selected (choiceRule given s (h .waiting)))
+  full-found : findings call ws ≡ guarded (fullCheck s c count r clock (length (sheets .players)) (length (sheets .qualities))) (selected (choiceRule given s queue))
+  unfolding findings
   full-found =
-      chain (ltb 64 (h .waiting .size)) (ltb 1024 (h .log .size)) (sizesOver s || (constraintsOver c || ltb 8 count)) (rulesCheck r) (broughtPairsCheck c)
-      (areShort (length (sheets .players)) (length (sheets .qualities))) (late clock) (any isLate (h .waiting .entries)) (tooWide (h .waiting .entries)) (chosen given s (h .waiting .entries))
+      rw (entries-late ws)
+      (chain (ltb 64 (length (map entryOf ws))) (over s c count) (rulesCheck r) (broughtPairsCheck c)
+      (areShort (length (sheets .players)) (length (sheets .qualities))) (late clock) (any hasLate ws) (tooWide (map entryOf ws)) (chosen given s (map entryOf ws)) (entries-fit ws few))
 
-  module _ (k : Checked) (checked : checkedOf k ≡ fullCheck h s c count r clock (length (sheets .players)) (length (sheets .qualities))) where
+  module _ (k : Checked) (checked : checkedOf k ≡ fullCheck s c count r clock (length (sheets .players)) (length (sheets .qualities))) where
     -- the check refuses
-    pub full-refused : {x : Refusal} → k ≡ Refused x → roundFound h call ≡ refused (refusalNumber x)
-    full-refused e = full-found ∙ sym (guard-refuses _ k e checked)
+    pub full-refused : (x : Refusal) → k ≡ Refused x → {h : Handed} → h ≡ refusing x → FoundNumbers call ws h (sheets .players) (sheets .qualities)
+    full-refused x e g = handed-refused quality sheets x (full-found ∙ sym (guard-refuses _ k e checked)) g
 
     -- the check passes: the choice decides
-    pub full-given : k ≡ Passed → roundFound h call ≡ selected (choiceRule given s (h .waiting))
-    full-given e = full-found ∙ sym (guard-passes _ k e checked)
+    pub full-given : k ≡ Passed → {q : QueueState} → q ≡ queue → {v : Outcome Selection} → v ≡ choiceRule given s q → {h : Handed} {ps : List ℕ} {qs : List Float} → HandedNumbers quality sheets (selected v) h ps qs → FoundNumbers call ws h ps qs
+    full-given e {q} w {v} g {h} {ps} {qs} z =
+        let k : selected v ≡ findings call ws = ap selected (g ∙ ap (choiceRule given s) w) ∙ guard-passes _ k e checked ∙ sym full-found in
+        rw k at z
 
 -- ---- the choice seats A + B
 
@@ -167,49 +204,3 @@ module _ (t : Terms) (s : TeamComposition) (q : QueueState) where
   pub choice-seated : (v : Outcome Selection) → v ≡ choiceRule t s q → All (λ m. length (seated m) ≡ seatsOf s) (matchesFrom (selected v))
   choice-seated (refused n) e = tt
   choice-seated (gives x) e = best-seated (x .best) (x .tried) (sym e)
-
--- ---- the choice on the sheets
-
--- a first place that is written
-set-first : (xs : List Float) (x : Float) → 1 ≤ length xs → set xs 0 x ≡ x ∷ drop 1 xs
-set-first [] x h = absurd (not-suc-le-zero h)
-set-first (y ∷ xs) x h = refl
-
-module _ (h : HallState) (sheets : Sheets) {v : Outcome Selection} where
-  -- a refusal
-  pub choice-refused : {n : ℕ} → v ≡ refused n → {x : HallState} {o : Outcome ℕ} {t : ℕ} → (x ≡ h) × ((o ≡ refused n) × (t ≡ 0)) → record { hall = x; handed = record { answer = o; sheets = sheets }; tried = t } ≡ turnFrom h (λ m. Floats.zero) sheets (selected v)
-  choice-refused e z =
-      (λ j. record { hall = z .0 j; handed = record { answer = z .1 .0 j; sheets = sheets }; tried = z .1 .1 j })
-      ∙ sym (ap (λ (u : Outcome Selection). turnFrom h (λ m. Floats.zero) sheets (selected u)) e)
-
-  -- no choice passes: everyone stays
-  pub choice-none : {n : ℕ} → v ≡ gives (record { best = none; tried = n }) → h .waiting ≡ holding (h .waiting .entries) → {x : HallState} {o : Outcome ℕ} {t : ℕ} → (x ≡ h) × ((o ≡ gives 0) × (t ≡ n)) → record { hall = x; handed = record { answer = o; sheets = sheets }; tried = t } ≡ turnFrom h (λ m. Floats.zero) sheets (selected v)
-  unfolding seats
-  choice-none {n} e whole z =
-      let stays : h .waiting ≡ holding (withoutAll [] (h .waiting .entries)) = whole ∙ ap holding (sym (none-named (h .waiting .entries))) in
-      (λ j. record { hall = z .0 j; handed = record { answer = z .1 .0 j; sheets = sheets }; tried = z .1 .1 j })
-      ∙ (λ j. record { hall = record { waiting = stays j; log = h .log }; handed = record { answer = gives 0; sheets = sheets }; tried = n })
-      ∙ sym (ap (λ (u : Outcome Selection). turnFrom h (λ m. Floats.zero) sheets (selected u)) e)
-
-  -- a choice stands on the sheets, with quality 0.0, and the seated leave
-  module _ (m : MatchState) {n each : ℕ} (e : v ≡ gives (record { best = some m; tried = n })) (sized : All (λ x. length (seated x) ≡ each) (matchesFrom (selected v))) (room : each ≤ length (sheets .players)) (space : 1 ≤ length (sheets .qualities)) {ps : List ℕ} {qs : List Float} (p : ps ≡ overlaid (seated m) (sheets .players)) (q : qs ≡ set (sheets .qualities) 0 Floats.zero) where
-    -- the one match has these seats
-    all-sized : All (λ x. length (seated x) ≡ each) (m ∷ [])
-    all-sized = rw e at sized
-
-    -- it is what is handed out
-    one-handed : record { answer = gives 1; sheets = record { players = ps; qualities = qs } } ≡ handedOut (λ x. Floats.zero) (gives (m ∷ [])) sheets
-    unfolding seats
-    one-handed =
-        let fits : length (seated m) ≤ length (sheets .players) = rw (all-sized .0) room in
-        let a : ps ≡ seated m ++ drop (length (seated m)) (sheets .players) = p ∙ overlaid-fits (seated m) (sheets .players) fits in
-        let b : qs ≡ Floats.zero ∷ drop 1 (sheets .qualities) = q ∙ set-first (sheets .qualities) Floats.zero space in
-        rw (append-nil (seated m), a, b)
-
-    -- the whole round
-    pub choice-given : {x : HallState} {o : Outcome ℕ} {t : ℕ} → (x ≡ departed h (gives 1) each ps) × ((o ≡ gives 1) × (t ≡ n)) → record { hall = x; handed = record { answer = o; sheets = record { players = ps; qualities = qs } }; tried = t } ≡ turnFrom h (λ x. Floats.zero) sheets (selected v)
-    choice-given z =
-        let gone = z .0 ∙ seats-leave (λ x. Floats.zero) sheets each (m ∷ []) all-sized one-handed h in
-        let out : record { answer = _; sheets = record { players = ps; qualities = qs } } ≡ handedOut (λ x. Floats.zero) (gives (m ∷ [])) sheets = (λ j. record { answer = z .1 .0 j; sheets = record { players = ps; qualities = qs } }) ∙ one-handed in
-        (λ j. record { hall = gone j; handed = out j; tried = z .1 .1 j })
-        ∙ sym (ap (λ (u : Outcome Selection). turnFrom h (λ x. Floats.zero) sheets (selected u)) e)

@@ -1,13 +1,6 @@
 pub mod KeyLaws
+pub mod WaitLaws
+pub mod Turns
 pub mod RoundLaws
 pub mod ChoiceRounds
-pub mod Keys
 pub mod Found
-pub mod Orderly
-pub mod Thin
-pub mod Resend
-pub mod Origin
-pub mod First
-pub mod Count
-pub mod Demand
-pub mod Runs

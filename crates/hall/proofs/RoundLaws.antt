@@ -1,28 +1,33 @@
--- Laws of the rounds over plain lists: a refused round, a round that hands out matches, and how the seated leave.
+-- Laws of the rounds over plain lists: a refused round, and a round that hands out matches.
 use Prim.Native.Nat.{ℕ, _+_, _*_, _≤_}
 use mathlib.Core.Path.{_≡_, refl, sym, ap, _∙_}
 use mathlib.Core.Bool.{Bool, true, false, cond, _||_}
-use mathlib.Core.List.{List, _++_}
+use mathlib.Core.List.{List, _++_, map}
 use native.Mathlib.Omega.{arith}
+use borrow.Author.Tests.{le-ltb}
 use lib.Dec.{ltb}
 use lib.Ieee.{Float}
-use lib.ListN.{length, take, drop, length-append}
+use lib.ListN.{length, take, drop, length-append, length-map}
 use lib.Seq.{take-at}
 use Rattle.base.specs.declared.Checked.{Checked}
 use Rattle.base.specs.declared.Checked.the-variants.{Passed, Refused}
 use Rattle.base.specs.declared.Refusal.{Refusal}
+use Rattle.base.specs.declared.Refusal.the-variants.{Clock}
 use Rattle.base.specs.Lists.{any, All}
 use Rattle.base.specs.Refusals.{Outcome, refused, gives, guarded, refusalNumber, checkedOf}
 use Rattle.base.proofs.Cases.{never}
-use Rattle.base.proofs.Checks.{neither, guard-refuses, guard-passes, passed-to}
+use Rattle.base.proofs.Checks.{guard-refuses, guard-passes, passed-to}
+use Rattle.base.proofs.Loops.{seek-map}
+use Rattle.base.proofs.Numbers.{refusal-back}
 use Rattle.queue.specs.Time.{late}
-use Rattle.queue.specs.Queue.{isLate, withoutAll, holding, Parting, parting}
+use Rattle.queue.specs.Queue.{QueueState, isLate, holding}
 use Rattle.roster.specs.Roster.{Roster, ratingsCheck, deviationsCheck}
 use Rattle.matchmaker.specs.Quality.{MatchState, seated, qualityOf}
+use Rattle.objective.specs.declared.score.MatchObjective.{MatchObjective}
 use Rattle.seating.specs.declared.TeamComposition.{TeamComposition}
 use Rattle.seating.specs.declared.Formed.{Formed}
-use Rattle.seating.specs.declared.Formed.the-variants.{Count}
-use Rattle.seating.specs.Seating.{Sheets, HandedOut, sizesOver, seatsOf, areShort, seats, handedOut, formedOf, countIn}
+use Rattle.seating.specs.declared.Formed.the-variants as Formed
+use Rattle.seating.specs.Seating.{Sheets, HandedOut, sizesOver, seatsOf, areShort, seats, handedOut, leaving}
 use Rattle.seating.proofs.Laws.{length-seats}
 use Rattle.search.specs.Greedy.{greedyMatches, greedyCheck, greedyRule}
 use Rattle.search.specs.Beam.{beaming, beamMatches, beamCheck, beamRule}
@@ -30,64 +35,121 @@ use Rattle.search.proofs.Seating.{all-so}
 use Rattle.search.proofs.Seats.{greedy-sized}
 use Rattle.search.proofs.BeamSeats.{beam-sized}
 use Rattle.search.proofs.Sheets.{beam-fit}
-use Rattle.objective.specs.declared.score.MatchObjective.{MatchObjective}
-use Rattle.hall.specs.Hall.{HallState, isOver}
-use Rattle.hall.specs.Rounds.{greedy, beam, RoundCall, untried, qualityBy, roundFound, roundRule}
-use Rattle.hall.specs.Steps.{departed, turnFrom}
+use Rattle.hall.specs.Hall.{hasLate, entryOf}
+use Rattle.hall.specs.Rounds.{greedy, beam, RoundCall, Found, calling, untried, findings}
+use Rattle.hall.specs.Steps.{HandedNumbers, FoundNumbers}
+use Rattle.hall.specs.declared.Booking.{Booking}
+use Rattle.hall.specs.declared.rounds.Handed.{Handed}
 
--- ---- how the seated leave
+-- ---- what a round comes to
 
--- as many places as the matches have seats
-pub counted : (f : Formed) (n each len : ℕ) → f ≡ Count n → countIn (formedOf f) * each ≤ len → n * each ≤ len
-counted f n each len e h = rw e at h
+-- what a refused round hands out
+abbrev pub refusing : Refusal → Handed
+refusing x = record { count = 0; seats = 0; tried = 0; refusal = refusalNumber x }
 
--- those in the first places leave
-pub left : (h : HallState) (f : Formed) (n each : ℕ) (sheet : List ℕ) (p : Parting) → f ≡ Count n → p ≡ parting (take (n * each) sheet) (h .waiting .entries) → _≡_ {A = HallState} (record { waiting = p .kept; log = h .log }) (departed h (formedOf f) each sheet)
-left h f n each sheet p e g = rw (e, g)
+-- what a round hands out whose matches seat this many each
+abbrev pub handing : ℕ → ℕ → ℕ → Handed
+handing n each t = record { count = n; seats = n * each; tried = t; refusal = 0 }
+
+module _ (quality : MatchState → Float) (sheets : Sheets) where
+  -- a refused round writes nothing
+  pub handed-refused : {o : Outcome Found} (x : Refusal) → o ≡ refused (refusalNumber x) → {r : Handed} → r ≡ refusing x → HandedNumbers quality sheets o r (sheets .players) (sheets .qualities)
+  unfolding seats
+  handed-refused x e g =
+      rw (e, g)
+      (record {
+        handed = ap (λ (v : Outcome ℕ). record { answer = v; sheets = sheets }) (refusal-back x 0);
+        count = refl;
+        tried = refl;
+        fits = omega arith;
+        seated = refl;
+      })
+
+  -- matches that are found are handed out, and their seats are the first places of the sheet
+  module _ (ms : List MatchState) (each : ℕ) (sized : All (λ m. length (seated m) ≡ each) ms) {n : ℕ} {ps : List ℕ} {qs : List Float} (h : record { answer = gives n; sheets = record { players = ps; qualities = qs } } ≡ handedOut quality (gives ms) sheets) where
+    -- the answer is their number
+    counted : n ≡ length ms
+    counted = let k : _≡_ {A = Outcome ℕ} (gives n) (gives (length ms)) = ap (λ (x : HandedOut). x .answer) h in cc
+
+    -- the players' sheet begins with the seats
+    sheet : ps ≡ seats ms ++ drop (length (seats ms)) (sheets .players)
+    sheet = ap (λ (x : HandedOut). x .sheets .players) h
+
+    -- the seats stand on it
+    seats-fit : n * each ≤ length ps
+    seats-fit =
+        rw (counted, sheet, ← length-seats each ms sized, length-append (seats ms) (drop (length (seats ms)) (sheets .players))) (omega arith)
+
+    -- in its first places
+    seats-first : take (n * each) ps ≡ seats ms
+    seats-first =
+        rw (counted, sheet)
+        (take-at (seats ms) (drop (length (seats ms)) (sheets .players)) (length ms * each) (length-seats each ms sized))
+
+    -- the whole round
+    pub handed-given : {o : Outcome Found} (t : ℕ) → o ≡ gives (record { matches = ms; tried = t }) → HandedNumbers quality sheets o (handing n each t) ps qs
+    handed-given t e = rw e (record { handed = h; count = counted; tried = refl; fits = seats-fit; seated = seats-first })
+
+-- ---- what a search comes to
+
+module _ (quality : MatchState → Float) (sheets : Sheets) where
+  -- a refusal was one, and the sheets stay
+  refused-of : (u : Outcome (List MatchState)) {n : ℕ} {s : Sheets} → record { answer = refused n; sheets = s } ≡ handedOut quality u sheets → (u ≡ refused n) × (s ≡ sheets)
+  refused-of (refused m) {n} h =
+      let k : _≡_ {A = Outcome ℕ} (refused n) (refused m) = ap (λ (x : HandedOut). x .answer) h in
+      (cc, ap (λ (x : HandedOut). x .sheets) h)
+  refused-of (gives ms) {n} h = never (let k : _≡_ {A = Outcome ℕ} (refused n) (gives (length ms)) = ap (λ (x : HandedOut). x .answer) h in cc)
+
+  -- a number was that of matches
+  given-of : (u : Outcome (List MatchState)) {n : ℕ} {s : Sheets} → record { answer = gives n; sheets = s } ≡ handedOut quality u sheets → (ms : List MatchState) × (u ≡ gives ms)
+  given-of (refused m) {n} h = never (let k : _≡_ {A = Outcome ℕ} (gives n) (refused m) = ap (λ (x : HandedOut). x .answer) h in cc)
+  given-of (gives ms) h = (ms, refl)
+
+-- a search gave v, and left this
+module _ (quality : MatchState → Float) (sheets : Sheets) (each : ℕ) (v : Outcome (List MatchState)) (sized : (ms : List MatchState) → v ≡ gives ms → All (λ m. length (seated m) ≡ each) ms) (f : Formed) {ps : List ℕ} {qs : List Float} (left : leaving f ps qs ≡ handedOut quality v sheets) where
+  -- the search refuses
+  search-refused : {o : Outcome Found} → o ≡ untried v → (x : Refusal) → f ≡ Formed.Refused x → {r : Handed} → r ≡ refusing x → HandedNumbers quality sheets o r ps qs
+  search-refused {o} found x e {r} g =
+      let y = refused-of quality sheets v (rw e at left) in
+      let z = handed-refused quality sheets x (found ∙ ap untried (y .0)) g in
+      rw (ap (λ (s : Sheets). s .players) (y .1), ap (λ (s : Sheets). s .qualities) (y .1)) z
+
+  module _ (n : ℕ) (e : f ≡ Formed.Count n) where
+    -- the answer is a number
+    told : record { answer = gives n; sheets = record { players = ps; qualities = qs } } ≡ handedOut quality v sheets
+    told = rw e at left
+
+    -- the matches
+    given : (ms : List MatchState) × (v ≡ gives ms)
+    given = given-of quality sheets v told
+
+    -- are what is handed out
+    written : record { answer = gives n; sheets = record { players = ps; qualities = qs } } ≡ handedOut quality (gives (given .0)) sheets
+    written = told ∙ ap (λ (u : Outcome (List MatchState)). handedOut quality u sheets) (given .1)
+
+    -- their seats stand on the sheet
+    search-fits : n * each ≤ length ps
+    search-fits = seats-fit quality sheets (given .0) each (sized (given .0) (given .1)) written
+
+    -- the search gives matches
+    search-given : {o : Outcome Found} → o ≡ untried v → HandedNumbers quality sheets o (handing n each 0) ps qs
+    search-given found = handed-given quality sheets (given .0) each (sized (given .0) (given .1)) written 0 (found ∙ ap untried (given .1))
+
+-- ---- the queue that is searched
 
 -- matches of A and B players each seat A + B
-pub all-seated : (s : TeamComposition) (ms : List MatchState) → All (λ m. (length (m .a .players) ≡ s .a) × (length (m .b .players) ≡ s .b)) ms → All (λ m. length (seated m) ≡ seatsOf s) ms
+all-seated : (s : TeamComposition) (ms : List MatchState) → All (λ m. (length (m .a .players) ≡ s .a) × (length (m .b .players) ≡ s .b)) ms → All (λ m. length (seated m) ≡ seatsOf s) ms
 all-seated s =
     all-so (λ m. (length (m .a .players) ≡ s .a) × (length (m .b .players) ≡ s .b)) (λ m. length (seated m) ≡ seatsOf s)
     (λ m z. length-append (m .a .players) (m .b .players) ∙ rw (z .0, z .1))
 
--- matches of these sizes, handed out
-module _ (quality : MatchState → Float) (sheets : Sheets) (each : ℕ) (ms : List MatchState) (sized : All (λ m. length (seated m) ≡ each) ms) {f : Outcome ℕ} {ps : List ℕ} {qs : List Float} (e : record { answer = f; sheets = record { players = ps; qualities = qs } } ≡ handedOut quality (gives ms) sheets) where
-  -- the answer is their number
-  handed-count : f ≡ gives (length ms)
-  handed-count = ap (λ (o : HandedOut). o .answer) e
+-- the entries of so few bookings are within the queue's limit
+pub entries-fit : (ws : List Booking) → length ws ≤ 64 → ltb 64 (length (map entryOf ws)) ≡ false
+entries-fit ws few = rw (length-map ws entryOf) (le-ltb 64 (length ws) few)
 
-  -- the players' sheet begins with their seats
-  handed-players : ps ≡ seats ms ++ drop (length (seats ms)) (sheets .players)
-  handed-players = ap (λ (o : HandedOut). o .sheets .players) e
-
-  -- the seats stand on the sheet
-  pub seats-fit : countIn f * each ≤ length ps
-  seats-fit =
-      rw (handed-count, handed-players, ← length-seats each ms sized, length-append (seats ms) (drop (length (seats ms)) (sheets .players))) (omega arith)
-
-  -- and they are its first places
-  pub seats-leave : (h : HallState) → departed h f each ps ≡ record { waiting = holding (withoutAll (seats ms) (h .waiting .entries)); log = h .log }
-  seats-leave h =
-      let first : take (length ms * each) (seats ms ++ drop (length (seats ms)) (sheets .players)) ≡ seats ms = take-at (seats ms) (drop (length (seats ms)) (sheets .players)) (length ms * each) (length-seats each ms sized) in
-      rw (handed-count, handed-players, first)
-
--- ---- what a round comes to
-
-module _ (h : HallState) (c : RoundCall) where
-  -- a refused round changes nothing
-  pub round-refused : {x : HallState} {o : Outcome ℕ} {t n : ℕ} → roundFound h c ≡ refused n → (x ≡ h) × ((o ≡ refused n) × (t ≡ 0)) → record { hall = x; handed = record { answer = o; sheets = c .sheets }; tried = t } ≡ roundRule h c
-  round-refused e r = (λ j. record { hall = r .0 j; handed = record { answer = r .1 .0 j; sheets = c .sheets }; tried = r .1 .1 j }) ∙ sym (ap (turnFrom h (qualityBy (c .round)) (c .sheets)) e)
-
-  -- matches that are found are handed out, and the seated leave
-  pub round-given : (ms : List MatchState) (n : ℕ) {x : HallState} {o f : Outcome ℕ} {t : ℕ} {s : Sheets} → roundFound h c ≡ gives (record { matches = ms; tried = n }) → x ≡ record { waiting = holding (withoutAll (seats ms) (h .waiting .entries)); log = h .log } → o ≡ f → t ≡ n → record { answer = f; sheets = s } ≡ handedOut (qualityBy (c .round)) (gives ms) (c .sheets) → record { hall = x; handed = record { answer = o; sheets = s }; tried = t } ≡ roundRule h c
-  round-given ms n {x} {o} {f} {t} {s} e left same count handed =
-      let k : record { answer = o; sheets = s } ≡ handedOut (qualityBy (c .round)) (gives ms) (c .sheets) = (λ j. record { answer = same j; sheets = s }) ∙ handed in
-      (λ j. record { hall = left j; handed = k j; tried = count j }) ∙ sym (ap (turnFrom h (qualityBy (c .round)) (c .sheets)) e)
-
-  -- a hall over its limits
-  pub round-over : isOver h ≡ true → roundFound h c ≡ refused 1
-  round-over e = rw e
+-- an entry is late where its booking is
+pub entries-late : (ws : List Booking) → any isLate (map entryOf ws) ≡ any hasLate ws
+entries-late ws = seek-map entryOf isLate (λ x. true) false ws
 
 -- ---- the greedy round
 
@@ -102,59 +164,63 @@ chain false false (gives u) false true false v e = refl
 chain false false (gives u) false false true v e = refl
 chain false false (gives u) false false false v e = refl
 
-module _ (h : HallState) (s : TeamComposition) (r : Roster) (clock : ℕ) (sheets : Sheets) where
+module _ (ws : List Booking) (few : length ws ≤ 64) (q : QueueState) (whole : q ≡ holding (map entryOf ws)) (s : TeamComposition) (r : Roster) (clock : ℕ) (sheets : Sheets) where
   -- the call, its matches and the check of the search
   abbrev call : RoundCall
-  call = record { round = greedy s r; clock = clock; sheets = sheets }
+  call = calling (greedy s r) clock (sheets .players) (sheets .qualities)
 
-  abbrev found : List MatchState
-  found = greedyMatches s r (h .waiting .entries)
+  abbrev quality : MatchState → Float
+  quality m = qualityOf r (m .a .players) (m .b .players)
 
   abbrev check : Outcome Unit
-  check = greedyCheck s r (h .waiting) (length (sheets .players)) (length (sheets .qualities))
+  check = greedyCheck s r q (length (sheets .players)) (length (sheets .qualities))
 
-  -- every match seats A + B
-  pub greedy-seated : All (λ m. length (seated m) ≡ seatsOf s) found
-  greedy-seated = all-seated s found (greedy-sized s r (h .waiting .entries))
+  abbrev searched : Outcome (List MatchState)
+  searched = guarded check (gives (greedyMatches s r (q .entries)))
 
-  module _ (under : isOver h ≡ false) where
-    -- what is found stands behind the check and the clock
-    greedy-found : roundFound h call ≡ guarded check (cond (late clock) (refused 4) (gives (record { matches = found; tried = 0 })))
-    greedy-found =
-        rw under
-        (chain (ltb 64 (h .waiting .size)) (sizesOver s) (ratingsCheck r) (areShort (length (sheets .players)) (length (sheets .qualities))) (late clock) (any isLate (h .waiting .entries)) _ (neither (ltb 64 (h .waiting .size)) (ltb 1024 (h .log .size)) under .0))
+  -- what is found stands behind the check and the clock
+  greedy-found : findings call ws ≡ guarded check (cond (late clock) (refused 4) (gives (record { matches = greedyMatches s r (q .entries); tried = 0 })))
+  unfolding findings
+  greedy-found =
+      rw (whole, entries-late ws)
+      (chain (ltb 64 (length (map entryOf ws))) (sizesOver s) (ratingsCheck r) (areShort (length (sheets .players)) (length (sheets .qualities))) (late clock) (any hasLate ws) _ (entries-fit ws few))
 
-    module _ (k : Checked) (checked : checkedOf k ≡ check) where
-      -- the check refuses
-      pub greedy-refused : {x : Refusal} → k ≡ Refused x → roundFound h call ≡ refused (refusalNumber x)
-      greedy-refused e = greedy-found ∙ sym (guard-refuses _ k e checked)
+  module _ (k : Checked) (checked : checkedOf k ≡ check) where
+    -- the check refuses
+    pub greedy-refused : (x : Refusal) → k ≡ Refused x → {h : Handed} → h ≡ refusing x → FoundNumbers call ws h (sheets .players) (sheets .qualities)
+    greedy-refused x e g = handed-refused quality sheets x (greedy-found ∙ sym (guard-refuses _ k e checked)) g
 
+    module _ (passed : k ≡ Passed) where
       -- the clock is late
-      pub greedy-late : k ≡ Passed → late clock ≡ true → roundFound h call ≡ refused 4
-      greedy-late e l = greedy-found ∙ sym (guard-passes _ k e checked) ∙ rw l
+      pub greedy-late : late clock ≡ true → {h : Handed} → h ≡ refusing Clock → FoundNumbers call ws h (sheets .players) (sheets .qualities)
+      greedy-late l g = handed-refused quality sheets Clock (greedy-found ∙ sym (guard-passes _ k passed checked) ∙ rw l) g
 
-      -- neither: the matches are found
-      pub greedy-given : k ≡ Passed → late clock ≡ false → roundFound h call ≡ gives (record { matches = found; tried = 0 })
-      greedy-given e l = greedy-found ∙ sym (guard-passes _ k e checked) ∙ rw l
+      -- it is not: what is found is what the search gives
+      searched-found : late clock ≡ false → findings call ws ≡ untried searched
+      searched-found l =
+          greedy-found ∙ sym (guard-passes _ k passed checked) ∙ rw l (ap untried (guard-passes (gives (greedyMatches s r (q .entries))) k passed checked))
 
-  -- what a search that refuses nothing hands out
-  pub greedy-handed : (k : Checked) → checkedOf k ≡ check → k ≡ Passed → {o : HandedOut} → o ≡ greedyRule s r (h .waiting) sheets → o ≡ handedOut (λ m. qualityOf r (m .a .players) (m .b .players)) (gives found) sheets
-  greedy-handed k checked e g = g ∙ sym (ap (λ (u : Outcome (List MatchState)). handedOut (λ m. qualityOf r (m .a .players) (m .b .players)) u sheets) (guard-passes (gives found) k e checked))
+      -- every match seats A + B
+      sized : (ms : List MatchState) → searched ≡ gives ms → All (λ m. length (seated m) ≡ seatsOf s) ms
+      sized ms e =
+          let y : _≡_ {A = Outcome (List MatchState)} (gives (greedyMatches s r (q .entries))) (gives ms) = passed-to check (gives (greedyMatches s r (q .entries))) e .1 in
+          let z : greedyMatches s r (q .entries) ≡ ms = cc in
+          rw (← z) (all-seated s (greedyMatches s r (q .entries)) (greedy-sized s r (q .entries)))
 
--- ---- what is read off an answer
+      -- what the search left
+      module _ (f : Formed) {ps : List ℕ} {qs : List Float} (left : leaving f ps qs ≡ greedyRule s r q sheets) where
+        -- it refuses
+        pub greedy-search-refused : late clock ≡ false → (x : Refusal) → f ≡ Formed.Refused x → {h : Handed} → h ≡ refusing x → FoundNumbers call ws h ps qs
+        greedy-search-refused l = search-refused quality sheets (seatsOf s) searched sized f left (searched-found l)
 
-module _ (quality : MatchState → Float) (sheets : Sheets) where
-  -- a refusal was one, and the sheets stay
-  refused-of : (o : Outcome (List MatchState)) {f : Outcome ℕ} {n : ℕ} {s : Sheets} → f ≡ refused n → record { answer = f; sheets = s } ≡ handedOut quality o sheets → (o ≡ refused n) × (s ≡ sheets)
-  refused-of (refused m) t e =
-      let k : _≡_ {A = Outcome ℕ} (refused m) (refused _) = sym (ap (λ (x : HandedOut). x .answer) e) ∙ t in
-      (cc, ap (λ (x : HandedOut). x .sheets) e)
-  refused-of (gives ms) {n = n} t e = never (let k : _≡_ {A = Outcome ℕ} (refused n) (gives (length ms)) = sym t ∙ ap (λ (x : HandedOut). x .answer) e in cc)
+        module _ (n : ℕ) (e : f ≡ Formed.Count n) where
+          -- the seats stand on the sheet
+          pub greedy-fits : n * seatsOf s ≤ length ps
+          greedy-fits = search-fits quality sheets (seatsOf s) searched sized f left n e
 
-  -- a number was that of matches
-  given-of : (o : Outcome (List MatchState)) {f : Outcome ℕ} {n : ℕ} {s : Sheets} → f ≡ gives n → record { answer = f; sheets = s } ≡ handedOut quality o sheets → (ms : List MatchState) × (o ≡ gives ms)
-  given-of (refused m) {n = n} t e = never (let k : _≡_ {A = Outcome ℕ} (gives n) (refused m) = sym t ∙ ap (λ (x : HandedOut). x .answer) e in cc)
-  given-of (gives ms) t e = (ms, refl)
+          -- it gives matches
+          pub greedy-given : late clock ≡ false → FoundNumbers call ws (handing n (seatsOf s) 0) ps qs
+          greedy-given l = search-given quality sheets (seatsOf s) searched sized f left n e (searched-found l)
 
 -- ---- the beam round
 
@@ -167,59 +233,49 @@ chain-of-beam false false (gives u) true l v e = refl
 chain-of-beam false false (gives u) false true v e = refl
 chain-of-beam false false (gives u) false false v e = refl
 
-module _ (h : HallState) (s : TeamComposition) (width : ℕ) (o : MatchObjective) (r : Roster) (clock : ℕ) (sheets : Sheets) where
+module _ (ws : List Booking) (few : length ws ≤ 64) (q : QueueState) (whole : q ≡ holding (map entryOf ws)) (s : TeamComposition) (width : ℕ) (objective : MatchObjective) (r : Roster) (clock : ℕ) (sheets : Sheets) where
   -- the call, its matches and the check of the search
   abbrev beamCall : RoundCall
-  beamCall = record { round = beam s width o r; clock = clock; sheets = sheets }
+  beamCall = calling (beam s width objective r) clock (sheets .players) (sheets .qualities)
 
-  abbrev quality : MatchState → Float
-  quality m = qualityOf r (m .a .players) (m .b .players)
+  abbrev beamQuality : MatchState → Float
+  beamQuality m = qualityOf r (m .a .players) (m .b .players)
 
   abbrev beamed : Outcome (List MatchState)
-  beamed = beamMatches (beaming s width o r (h .waiting .entries) clock) (h .waiting .entries)
+  beamed = beamMatches (beaming s width objective r (q .entries) clock) (q .entries)
 
-  abbrev checked : Outcome Unit
-  checked = beamCheck s width r (h .waiting) clock (length (sheets .players)) (length (sheets .qualities))
+  abbrev beamChecked : Outcome Unit
+  beamChecked = beamCheck s width r q clock (length (sheets .players)) (length (sheets .qualities))
 
-  -- what is found stands behind the check
-  beam-found : isOver h ≡ false → roundFound h beamCall ≡ untried (guarded checked beamed)
-  beam-found under =
-      rw under
-      (chain-of-beam (ltb 64 (h .waiting .size)) (sizesOver s || ltb 32 width) (deviationsCheck r) (areShort (length (sheets .players)) (length (sheets .qualities))) (late clock || any isLate (h .waiting .entries)) beamed (neither (ltb 64 (h .waiting .size)) (ltb 1024 (h .log .size)) under .0))
+  -- what is found is what the search gives
+  beam-found : findings beamCall ws ≡ untried (guarded beamChecked beamed)
+  unfolding findings
+  beam-found =
+      rw (whole, entries-late ws)
+      (chain-of-beam (ltb 64 (length (map entryOf ws))) (sizesOver s || ltb 32 width) (deviationsCheck r) (areShort (length (sheets .players)) (length (sheets .qualities))) (late clock || any hasLate ws) _ (entries-fit ws few))
+
+  -- every match seats A + B
+  beam-seated : (ms : List MatchState) → guarded beamChecked beamed ≡ gives ms → All (λ m. length (seated m) ≡ seatsOf s) ms
+  beam-seated ms e = all-seated s ms (beam-sized (beaming s width objective r (q .entries) clock) (q .entries) ms (passed-to beamChecked beamed e .1))
 
   -- what the search left
-  module _ {f : Outcome ℕ} {ps : List ℕ} {qs : List Float} (e : record { answer = f; sheets = record { players = ps; qualities = qs } } ≡ beamRule s width o r (h .waiting) clock sheets) where
-    -- a search that refuses: the hall and the sheets stay
-    pub beam-refused : isOver h ≡ false → {n : ℕ} → f ≡ refused n → {x : HallState} {a : Outcome ℕ} {t : ℕ} → (x ≡ h) × ((a ≡ refused n) × (t ≡ 0)) → record { hall = x; handed = record { answer = a; sheets = record { players = ps; qualities = qs } }; tried = t } ≡ roundRule h beamCall
-    beam-refused under told {x} {a} {t} z =
-        let y = refused-of quality sheets (guarded checked beamed) told e in
-        let g : roundFound h beamCall ≡ refused _ = beam-found under ∙ ap untried (y .0) in
-        (λ j. record { hall = x; handed = record { answer = a; sheets = y .1 j }; tried = t }) ∙ round-refused h beamCall g z
+  module _ (f : Formed) {ps : List ℕ} {qs : List Float} (left : leaving f ps qs ≡ beamRule s width objective r q clock sheets) where
+    -- it refuses
+    pub beam-refused : (x : Refusal) → f ≡ Formed.Refused x → {h : Handed} → h ≡ refusing x → FoundNumbers beamCall ws h ps qs
+    beam-refused = search-refused beamQuality sheets (seatsOf s) (guarded beamChecked beamed) beam-seated f left beam-found
 
-    module _ {n : ℕ} (told : f ≡ gives n) where
-      -- the matches, and that the check passed
-      given : (ms : List MatchState) × (guarded checked beamed ≡ gives ms)
-      given = given-of quality sheets (guarded checked beamed) told e
-
-      -- they are what is handed out
-      handed : record { answer = f; sheets = record { players = ps; qualities = qs } } ≡ handedOut quality (gives (given .0)) sheets
-      handed = e ∙ ap (λ (u : Outcome (List MatchState)). handedOut quality u sheets) (given .1)
-
-      -- each seats A + B
-      sized : All (λ m. length (seated m) ≡ seatsOf s) (given .0)
-      sized = all-seated s (given .0) (beam-sized (beaming s width o r (h .waiting .entries) clock) (h .waiting .entries) (given .0) (passed-to checked beamed (given .1) .1))
-
+    module _ (n : ℕ) (e : f ≡ Formed.Count n) where
       -- the sizes are within their limits
       pub beam-sizes : s .a + s .b ≤ 16
       beam-sizes =
-          let z = beam-fit s width r (h .waiting) clock (length (sheets .players)) (length (sheets .qualities)) (passed-to checked beamed (given .1) .0) in
+          let y = given beamQuality sheets (seatsOf s) (guarded beamChecked beamed) beam-seated f left n e in
+          let z = beam-fit s width r q clock (length (sheets .players)) (length (sheets .qualities)) (passed-to beamChecked beamed (y .1) .0) in
           omega (arith, z .1, z .2)
 
       -- the seats stand on the sheet
-      pub beam-fits : countIn f * seatsOf s ≤ length ps
-      beam-fits = seats-fit quality sheets (seatsOf s) (given .0) sized handed
+      pub beam-fits : n * seatsOf s ≤ length ps
+      beam-fits = search-fits beamQuality sheets (seatsOf s) (guarded beamChecked beamed) beam-seated f left n e
 
-      -- a search that gives matches: they are handed out, and the seated leave
-      pub beam-given : isOver h ≡ false → {x : HallState} {a : Outcome ℕ} {t : ℕ} → (x ≡ departed h f (seatsOf s) ps) × ((a ≡ f) × (t ≡ 0)) → record { hall = x; handed = record { answer = a; sheets = record { players = ps; qualities = qs } }; tried = t } ≡ roundRule h beamCall
-      beam-given under z =
-          round-given h beamCall (given .0) 0 (beam-found under ∙ ap untried (given .1)) (z .0 ∙ seats-leave quality sheets (seatsOf s) (given .0) sized handed h) (z .1 .0) (z .1 .1) handed
+      -- it gives matches
+      pub beam-given : FoundNumbers beamCall ws (handing n (seatsOf s) 0) ps qs
+      beam-given = search-given beamQuality sheets (seatsOf s) (guarded beamChecked beamed) beam-seated f left n e beam-found

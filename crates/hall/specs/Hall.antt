@@ -1,52 +1,122 @@
--- Document 01, "Hall (added)": the waiting queue, the key log, and what a booking or a withdrawal does.
+-- Document 01, "Hall (added)": who waits, the key book, and what a booking or a withdrawal does.
 use Prim.Native.Nat.{ℕ}
-use mathlib.Core.Bool.{Bool, cond, _&&_, _||_}
+use mathlib.Core.Bool.{Bool, not, cond, _&&_, _||_}
 use mathlib.Core.List.{List, [], _∷_, _++_}
 use mathlib.Core.Option.{Option, none, some}
 use lib.Dec.{eqb, ltb}
 use lib.ListN.{length, take}
 use Rattle.base.specs.Refusals.{Outcome, refused, gives}
-use Rattle.base.specs.Lists.{seek, any}
+use Rattle.base.specs.Numbers.{refusalOf}
+use Rattle.base.specs.Lists.{seek, any, keep, removeFirst, member}
 use Rattle.queue.specs.Time.{late}
-use Rattle.queue.specs.Queue.{QueueState, queueOf, holding, isOf, withoutFirst}
 use Rattle.queue.specs.declared.QueueEntry.{QueueEntry}
-use Rattle.hall.specs.declared.KeyRecord.{KeyRecord}
-use Rattle.hall.specs.declared.KeyLog.{KeyLog}
-use Rattle.hall.specs.declared.Hall.{Hall}
 use Rattle.hall.specs.declared.Booking.{Booking}
+use Rattle.hall.specs.declared.Note.{Note}
+use Rattle.hall.specs.declared.Hall.{Hall}
 
--- ---- the hall
+-- ---- who waits
 
--- the key book: the stated number of its notes, and the notes, in the order of coming
+-- the stated number of those who wait, and their bookings, in the order of coming. A stated number over 64 holds all 64 places.
+pub record WaitState : Type 0 where
+  pub size : ℕ
+  pub bookings : List Booking
+
+-- the first k bookings of an array
+abbrev pub waitsWith : ℕ → List Booking → WaitState
+waitsWith k bs = record { size = k; bookings = take k bs }
+
+-- just these bookings
+abbrev pub awaiting : List Booking → WaitState
+awaiting bs = record { size = length bs; bookings = bs }
+
+-- is this the guest's booking?
+abbrev pub bookedBy : ℕ → Booking → Bool
+bookedBy p b = eqb (b .player) p
+
+-- a booking with a late time
+abbrev pub hasLate : Booking → Bool
+hasLate b = late (b .joined)
+
+-- the bookings without the guest's first one
+abbrev pub withoutGuest : ℕ → List Booking → List Booking
+withoutGuest p = removeFirst (bookedBy p)
+
+-- the bookings of everyone but these guests
+abbrev pub withoutGuests : List ℕ → List Booking → List Booking
+withoutGuests ps = keep (λ b. not (member (b .player) ps))
+
+-- the queue's entry of a booking
+abbrev pub entryOf : Booking → QueueEntry
+entryOf b = record { player = b .player; joined = b .joined; rating = b .rating; party = b .party; role = b .role }
+
+-- ---- the key book: "key, kind, guest, answer"
+
+-- what a key stands for: kind 0 is a booking, 1 a withdrawal
+pub record Content : Type 0 where
+  pub kind : ℕ
+  pub player : ℕ
+
+-- does a key that stands for the first know a call of the second? "of the same kind and guest"
+unfoldable pub same : Content → Content → Bool
+same a b = eqb (a .kind) (b .kind) && eqb (a .player) (b .player)
+
+-- one keyed call that was answered; the answer as a number, 0 accepted, n refusal n
+pub record KeyRecord : Type 0 where
+  pub key : ℕ
+  pub content : Content
+  pub answer : ℕ
+
+-- the stated number of the records, and the records, in the order of coming
 pub record LogState : Type 0 where
   pub size : ℕ
   pub records : List KeyRecord
 
-abbrev pub logOf : KeyLog → LogState
-logOf l = record { size = l .len; records = take (l .len) (l .records) }
+-- what a note says that its key stands for
+abbrev pub contentIn : Note → Content
+contentIn m = record { kind = m .kind; player = m .player }
 
+-- a key and the note at its place
+abbrev pub recordOf : ℕ → Note → KeyRecord
+recordOf k m = record { key = k; content = contentIn m; answer = m .answer }
+
+-- the column of keys beside the notes
+unfoldable pub paired : List ℕ → List Note → List KeyRecord
+paired [] ms = []
+paired (k ∷ ks) [] = []
+paired (k ∷ ks) (m ∷ ms) = recordOf k m ∷ paired ks ms
+
+-- the first n keys of a column, each with its note
+abbrev pub logWith : ℕ → List ℕ → List Note → LogState
+logWith n ks ms = record { size = n; records = paired (take n ks) (take n ms) }
+
+-- just these records
 abbrev pub logging : List KeyRecord → LogState
 logging rs = record { size = length rs; records = rs }
 
+-- ---- the hall
+
 -- "waiting queue and key book"
 pub record HallState : Type 0 where
-  pub waiting : QueueState
+  pub waiting : WaitState
   pub log : LogState
 
 abbrev pub hallOf : Hall → HallState
-hallOf h = record { waiting = queueOf (h .waiting); log = logOf (h .log) }
+hallOf h = record { waiting = waitsWith (h .waiting) (h .bookings); log = logWith (h .noted) (h .keys) (h .notes) }
 
--- the hall of just these entries and notes
-abbrev pub hallWith : List QueueEntry → List KeyRecord → HallState
-hallWith ws rs = record { waiting = holding ws; log = logging rs }
+-- the hall of just these bookings and records
+abbrev pub hallWith : List Booking → List KeyRecord → HallState
+hallWith ws rs = record { waiting = awaiting ws; log = logging rs }
 
 -- "nobody waiting and no key noted"
 abbrev pub empty : HallState
 empty = hallWith [] []
 
 -- refusal 1: "a hall over 64 waiting or 1,024 notes"
+abbrev pub overLimits : ℕ → ℕ → Bool
+overLimits waiting noted = ltb 64 waiting || ltb 1024 noted
+
 abbrev pub isOver : HallState → Bool
-isOver h = ltb 64 (h .waiting .size) || ltb 1024 (h .log .size)
+isOver h = overLimits (h .waiting .size) (h .log .size)
 
 -- ---- a booking or a withdrawal whose key is new
 
@@ -54,63 +124,57 @@ pub data Deed : Type 0 where
   book : Booking → Deed
   withdraw : ℕ → Deed
 
--- the entry that a booking makes
-abbrev pub entryOf : Booking → QueueEntry
-entryOf b = record { player = b .player; joined = b .joined; rating = b .rating; party = b .party; role = b .role }
-
 pub record Deal : Type 0 where
-  pub waiting : List QueueEntry
+  pub waiting : List Booking
   pub answer : Outcome (Unit {0})
 
-abbrev pub stay : List QueueEntry → ℕ → Deal
-stay ws n = record { waiting = ws; answer = refused n }
+-- a booking: 4, 9, 10, or accepted. Does its guest wait, and is there room?
+unfoldable pub bookingAnswer : Booking → Bool → Bool → Outcome (Unit {0})
+bookingAnswer b waits room = cond (hasLate b) (refused 4) (cond waits (refused 9) (cond room (gives tt) (refused 10)))
 
--- "A booking appends": after 4, 9 and 10. "a withdrawal removes": after 11.
-unfoldable pub deal : Deed → List QueueEntry → Deal
-deal (book b) ws =
-    cond (late (b .joined)) (stay ws 4)
-    (cond (any (isOf (b .player)) ws) (stay ws 9)
-    (cond (ltb (length ws) 64) (record { waiting = ws ++ (entryOf b ∷ []); answer = gives tt }) (stay ws 10)))
-deal (withdraw p) ws = cond (any (isOf p) ws) (record { waiting = withoutFirst p ws; answer = gives tt }) (stay ws 11)
+-- a withdrawal: accepted, or 11. Does its guest wait?
+abbrev pub withdrawalAnswer : Bool → Outcome (Unit {0})
+withdrawalAnswer waits = cond waits (gives tt) (refused 11)
 
--- ---- the key book
+-- an accepted call changes who waits, a refused one does not
+abbrev pub settled : List Booking → List Booking → Outcome (Unit {0}) → Deal
+settled ws new (refused n) = record { waiting = ws; answer = refused n }
+settled ws new (gives u) = record { waiting = new; answer = gives u }
 
--- "key, kind, guest": kind 0 is a booking, 1 a withdrawal
+-- "A booking appends; a withdrawal removes."
+unfoldable pub deal : Deed → List Booking → Deal
+deal (book b) ws = settled ws (ws ++ (b ∷ [])) (bookingAnswer b (any (bookedBy (b .player)) ws) (ltb (length ws) 64))
+deal (withdraw p) ws = settled ws (withoutGuest p ws) (withdrawalAnswer (any (bookedBy p) ws))
+
+-- ---- what the key book says
+
+-- a call's key, and what the call would have it stand for
 pub record Signature : Type 0 where
   pub key : ℕ
-  pub kind : ℕ
-  pub player : ℕ
+  pub content : Content
 
-abbrev pub kindOf : Deed → ℕ
-kindOf (book b) = 0
-kindOf (withdraw p) = 1
-
-abbrev pub playerOf : Deed → ℕ
-playerOf (book b) = b .player
-playerOf (withdraw p) = p
+abbrev pub contentOf : Deed → Content
+contentOf (book b) = record { kind = 0; player = b .player }
+contentOf (withdraw p) = record { kind = 1; player = p }
 
 abbrev pub signed : ℕ → Deed → Signature
-signed k d = record { key = k; kind = kindOf d; player = playerOf d }
+signed k d = record { key = k; content = contentOf d }
 
--- a note's answer as a byte: 0 accepted, n refusal n
-abbrev pub answerByte : Outcome (Unit {0}) → ℕ
-answerByte (refused n) = n
-answerByte (gives u) = 0
-
--- the answer that a byte stands for in a note of this kind, if it is one that such a call can get noted
+-- the answer that a number stands for in a record of this kind, if it is one that such a call can get noted
 unfoldable pub answerIn : ℕ → ℕ → Option (Outcome (Unit {0}))
-answerIn kind byte =
-    cond (eqb byte 0) (some (gives tt))
+answerIn kind n =
+    cond (eqb n 0) (some (gives tt))
     (cond (eqb kind 0)
-    (cond (eqb byte 4 || (eqb byte 9 || eqb byte 10)) (some (refused byte)) none)
-    (cond (eqb kind 1 && eqb byte 11) (some (refused byte)) none))
+    (cond (eqb n 4 || (eqb n 9 || eqb n 10)) (some (refused n)) none)
+    (cond (eqb kind 1 && eqb n 11) (some (refused n)) none))
 
-abbrev pub note : Signature → Outcome (Unit {0}) → KeyRecord
-note s a = record { key = s .key; player = s .player; kind = s .kind; answer = answerByte a }
+-- the record of a call that got this answer
+abbrev pub recorded : Signature → Outcome (Unit {0}) → KeyRecord
+recorded s a = record { key = s .key; content = s .content; answer = refusalOf a }
 
--- the note of a key, if there is one
-abbrev pub noteOf : ℕ → List KeyRecord → Option KeyRecord
-noteOf k = seek (λ r. eqb (r .key) k) some none
+-- the record of a key, if there is one
+abbrev pub lookUp : ℕ → List KeyRecord → Option KeyRecord
+lookUp k = seek (λ r. eqb (r .key) k) some none
 
 -- what the key book says to a call: "a known key of the same kind and guest gets its noted answer"; refusals 7 and 8; or it is new
 pub data Judgement : Type 0 where
@@ -125,10 +189,10 @@ knownOr (some a) = known a
 
 abbrev pub judgeBy : ℕ → Signature → Option KeyRecord → Judgement
 judgeBy n s none = cond (ltb n 1024) fresh full
-judgeBy n s (some r) = cond (eqb (r .kind) (s .kind) && eqb (r .player) (s .player)) (knownOr (answerIn (r .kind) (r .answer))) clash
+judgeBy n s (some r) = cond (same (r .content) (s .content)) (knownOr (answerIn (r .content .kind) (r .answer))) clash
 
 unfoldable pub judge : List KeyRecord → Signature → Judgement
-judge rs s = judgeBy (length rs) s (noteOf (s .key) rs)
+judge rs s = judgeBy (length rs) s (lookUp (s .key) rs)
 
 -- ---- a keyed call
 
@@ -141,10 +205,10 @@ abbrev pub turn : HallState → Signature → Deal → Judgement → Turn
 turn h s d (known a) = record { hall = h; answer = a }
 turn h s d clash = record { hall = h; answer = refused 7 }
 turn h s d full = record { hall = h; answer = refused 8 }
-turn h s d fresh = record { hall = hallWith (d .waiting) (h .log .records ++ (note s (d .answer) ∷ [])); answer = d .answer }
+turn h s d fresh = record { hall = hallWith (d .waiting) (h .log .records ++ (recorded s (d .answer) ∷ [])); answer = d .answer }
 
 -- "A booking checks 1, 7, 8, 4, 9, 10; a withdrawal 1, 7, 8, 11; a resend stops after 8 with its noted answer."
 abbrev pub keyedRule : HallState → ℕ → Deed → Turn
 keyedRule h k d =
     cond (isOver h) (record { hall = h; answer = refused 1 })
-    (turn h (signed k d) (deal d (h .waiting .entries)) (judge (h .log .records) (signed k d)))
+    (turn h (signed k d) (deal d (h .waiting .bookings)) (judge (h .log .records) (signed k d)))

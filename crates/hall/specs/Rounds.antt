@@ -1,16 +1,16 @@
 -- Document 01, "Hall (added)": the greedy, the beam and the full round.
 use Prim.Native.Nat.{ℕ}
+use mathlib.Core.Path.{_≡_}
 use mathlib.Core.Bool.{Bool, false, cond, _||_}
-use mathlib.Core.List.{List, [], _∷_}
+use mathlib.Core.List.{List, [], _∷_, _++_, map}
 use mathlib.Core.Option.{Option, none, some}
 use lib.Dec.{ltb}
-use lib.Ieee.{Float}
+use lib.Ieee.{Float, lt}
 use lib.ListN.{length}
 use Rattle.base.specs.Floats as Floats
 use Rattle.base.specs.Refusals.{Outcome, refused, gives, guarded}
-use Rattle.base.specs.Lists.{any}
+use Rattle.base.specs.Lists.{any, All}
 use Rattle.queue.specs.Time.{late}
-use Rattle.queue.specs.Queue.{isLate, withoutAll, holding}
 use Rattle.queue.specs.declared.QueueEntry.{QueueEntry}
 use Rattle.roster.specs.Roster.{Roster, ratingsCheck, deviationsCheck, rulesCheck}
 use Rattle.matchmaker.specs.Quality.{MatchState, qualityOf}
@@ -21,8 +21,9 @@ use Rattle.seating.specs.Seating.{Sheets, HandedOut, sizesOver, areShort, seats
 use Rattle.search.specs.Greedy.{greedyMatches}
 use Rattle.search.specs.Beam.{beaming, beamMatches}
 use Rattle.candidate.specs.Exhaustive.{tooWide}
-use Rattle.choice.specs.Full.{Terms, Selection, chosen}
-use Rattle.hall.specs.Hall.{HallState, isOver}
+use Rattle.choice.specs.Full.{Terms, Selection, chosen, scoreIn, passing}
+use Rattle.hall.specs.declared.Booking.{Booking}
+use Rattle.hall.specs.Hall.{HallState, awaiting, hasLate, withoutGuests, entryOf, isOver}
 
 -- what a round brings beside its sheets
 pub data Round : Type 0 where
@@ -35,19 +36,14 @@ pub record RoundCall : Type 0 where
   pub clock : ℕ
   pub sheets : Sheets
 
+-- this round at this clock, with these sheets
+abbrev pub calling : Round → ℕ → List ℕ → List Float → RoundCall
+calling r clock players qualities = record { round = r; clock = clock; sheets = record { players = players; qualities = qualities } }
+
 abbrev pub sizesOf : Round → TeamComposition
 sizesOf (greedy s r) = s
 sizesOf (beam s width o r) = s
 sizesOf (full s t) = s
-
-abbrev pub rosterOf : Round → Roster
-rosterOf (greedy s r) = r
-rosterOf (beam s width o r) = r
-rosterOf (full s t) = t .roster
-
--- which of the waiting a round sees: all of them
-abbrev pub eligible : Round → List QueueEntry → List QueueEntry
-eligible r ws = ws
 
 -- refusal 1, beside the hall's and the sizes'
 abbrev pub overIn : Round → Bool
@@ -63,17 +59,29 @@ rosterIn (full s t) = guarded (rulesCheck (t .roster)) (broughtPairsCheck (t .co
 
 -- refusal 6
 abbrev pub tooWideIn : Round → List QueueEntry → Bool
-tooWideIn (greedy s r) ws = false
-tooWideIn (beam s width o r) ws = false
-tooWideIn (full s t) ws = tooWide ws
+tooWideIn (greedy s r) es = false
+tooWideIn (beam s width o r) es = false
+tooWideIn (full s t) es = tooWide es
 
--- 1, 2, 3, 4 and 6, in that order
-abbrev pub roundCheck : RoundCall → List QueueEntry → Outcome (Unit {0})
+-- ---- whom a round may seat
+
+-- all who wait
+abbrev pub eligible : RoundCall → List Booking → List Booking
+eligible c ws = ws
+
+-- as the queue that is searched
+abbrev pub entriesFor : RoundCall → List Booking → List QueueEntry
+entriesFor c ws = map entryOf (eligible c ws)
+
+-- 1, 2, 3, 4 and 6, in that order; 4 looks at all who wait
+abbrev pub roundCheck : RoundCall → List Booking → Outcome (Unit {0})
 roundCheck c ws =
     cond (overIn (c .round)) (refused 1)
     (guarded (rosterIn (c .round))
     (cond (areShort (length (c .sheets .players)) (length (c .sheets .qualities))) (refused 3)
-    (cond (late (c .clock) || any isLate ws) (refused 4) (cond (tooWideIn (c .round) (eligible (c .round) ws)) (refused 6) (gives tt)))))
+    (cond (late (c .clock) || any hasLate ws) (refused 4) (cond (tooWideIn (c .round) (entriesFor c ws)) (refused 6) (gives tt)))))
+
+-- ---- what a round finds
 
 -- the matches handed out, and the number of choices tried
 pub record Found : Type 0 where
@@ -94,9 +102,13 @@ selected (gives s) = gives (record { matches = listOf (s .best); tried = s .trie
 
 -- "A greedy or beam round runs the search; a full round filters the exhaustive list by the constraints and applies GreedySelection"
 abbrev pub foundBy : Round → ℕ → List QueueEntry → Outcome Found
-foundBy (greedy s r) clock ws = gives (record { matches = greedyMatches s r ws; tried = 0 })
-foundBy (beam s width o r) clock ws = untried (beamMatches (beaming s width o r ws clock) ws)
-foundBy (full s t) clock ws = selected (chosen t s ws)
+foundBy (greedy s r) clock es = gives (record { matches = greedyMatches s r es; tried = 0 })
+foundBy (beam s width o r) clock es = untried (beamMatches (beaming s width o r es clock) es)
+foundBy (full s t) clock es = selected (chosen t s es)
+
+-- the refusal of a round over these bookings, or what it finds
+unfoldable pub findings : RoundCall → List Booking → Outcome Found
+findings c ws = guarded (roundCheck c ws) (foundBy (c .round) (c .clock) (entriesFor c ws))
 
 -- the quality of a match; "Full rounds .. give quality 0.0"
 abbrev pub qualityBy : Round → MatchState → Float
@@ -115,24 +127,35 @@ abbrev pub matchesIn : Outcome Found → Outcome (List MatchState)
 matchesIn (refused n) = refused n
 matchesIn (gives f) = gives (f .matches)
 
+-- none where the round is refused
+abbrev pub matchesFrom : Outcome Found → List MatchState
+matchesFrom (refused n) = []
+matchesFrom (gives f) = f .matches
+
 abbrev pub triedIn : Outcome Found → ℕ
 triedIn (refused n) = 0
 triedIn (gives f) = f .tried
 
--- "Seated guests leave by remove_batch." A refused round changes nothing.
+-- "Seated guests leave by remove_batch", with every booking of theirs. A refused round changes nothing.
 abbrev pub leaving : HallState → Outcome Found → HallState
 leaving h (refused n) = h
-leaving h (gives f) = record { waiting = holding (withoutAll (seats (f .matches)) (h .waiting .entries)); log = h .log }
+leaving h (gives f) = record { waiting = awaiting (withoutGuests (seats (f .matches)) (h .waiting .bookings)); log = h .log }
+
+-- the turn of a round that found this
+abbrev pub turnFrom : HallState → RoundCall → Outcome Found → RoundTurn
+turnFrom h c o = record { hall = leaving h o; handed = handedOut (qualityBy (c .round)) (matchesIn o) (c .sheets); tried = triedIn o }
 
 abbrev pub roundFound : HallState → RoundCall → Outcome Found
-roundFound h c =
-    cond (isOver h) (refused 1)
-    (guarded (roundCheck c (h .waiting .entries)) (foundBy (c .round) (c .clock) (eligible (c .round) (h .waiting .entries))))
+roundFound h c = cond (isOver h) (refused 1) (findings c (h .waiting .bookings))
 
 abbrev pub roundRule : HallState → RoundCall → RoundTurn
-roundRule h c =
-    record {
-      hall = leaving h (roundFound h c);
-      handed = handedOut (qualityBy (c .round)) (matchesIn (roundFound h c)) (c .sheets);
-      tried = triedIn (roundFound h c);
-    }
+roundRule h c = turnFrom h c (roundFound h c)
+
+-- ---- the matches of a full round
+
+-- a full round not refused: at most one match; one exactly when some choice passes; the match is a passing choice, and no passing
+-- choice scores higher
+pub data FullRound (t : Terms) (s : TeamComposition) (es : List QueueEntry) : List MatchState → Type 0 where
+  none-passes : passing t s es ≡ [] → FullRound t s es []
+  best : (m : MatchState) (before behind : List MatchState) → passing t s es ≡ before ++ (m ∷ behind) →
+      All (λ x. lt (scoreIn t m) (scoreIn t x) ≡ false) (passing t s es) → FullRound t s es (m ∷ [])

@@ -1,39 +1,60 @@
--- What the code of the rounds computes on its way.
-use Prim.Native.Nat.{ℕ, _*_}
+-- What the code computes on its way.
+use Prim.Native.Nat.{ℕ, _≤_}
+use mathlib.Core.Path.{_≡_}
 use mathlib.Core.Bool.{cond, _||_}
-use mathlib.Core.List.{List, []}
+use mathlib.Core.List.{List}
+use mathlib.Core.Option.{Option, none, some}
 use lib.Dec.{ltb}
 use lib.Ieee.{Float}
-use lib.ListN.{take}
+use lib.ListN.{length, take}
 use Rattle.base.specs.Refusals.{Outcome, refused, gives, guarded}
+use Rattle.base.specs.Numbers.{outcomeIn}
 use Rattle.queue.specs.Time.{late}
-use Rattle.queue.specs.Queue.{holding, withoutAll}
 use Rattle.roster.specs.Roster.{Roster, rulesCheck}
 use Rattle.matchmaker.specs.Quality.{MatchState}
 use Rattle.constraint.specs.declared.Constraints.{Constraints}
 use Rattle.constraint.specs.Refusing.{constraintsOver, broughtPairsCheck}
 use Rattle.seating.specs.declared.TeamComposition.{TeamComposition}
-use Rattle.seating.specs.Seating.{Sheets, sizesOver, areShort, handedOut}
-use Rattle.hall.specs.Hall.{HallState, isOver}
-use Rattle.hall.specs.Rounds.{Found, RoundTurn, matchesIn, triedIn, leaving}
+use Rattle.seating.specs.Seating.{Sheets, sizesOver, areShort, seats, handedOut}
+use Rattle.hall.specs.Hall.{Content, same, contentIn, answerIn}
+use Rattle.hall.specs.Rounds.{RoundCall, Found, findings, qualityBy, matchesIn, matchesFrom, triedIn}
+use Rattle.hall.specs.declared.Booking.{Booking}
+use Rattle.hall.specs.declared.Note.{Note}
+use Rattle.hall.specs.declared.rounds.Handed.{Handed}
 
--- the hall without those in the first places of the sheet, `each` for every match; a refused round changes nothing
-abbrev pub departed : HallState → Outcome ℕ → ℕ → List ℕ → HallState
-departed h (refused n) each sheet = h
-departed h (gives n) each sheet = record { waiting = holding (withoutAll (take (n * each) sheet) (h .waiting .entries)); log = h .log }
+-- ---- the key book
+
+-- the answer that was noted, 7 where the number stands for none
+abbrev pub heardOr : Option (Outcome (Unit {0})) → Outcome (Unit {0})
+heardOr none = refused 7
+heardOr (some a) = a
+
+-- what a note says to a call with its key
+abbrev pub heardFrom : Note → Content → Outcome (Unit {0})
+heardFrom m c = cond (same (contentIn m) c) (heardOr (answerIn (m .kind) (m .answer))) (refused 7)
+
+-- a note of this content with this answer
+abbrev pub noteWith : Content → ℕ → Note
+noteWith c n = record { player = c .player; kind = c .kind; answer = n }
+
+-- ---- rounds
 
 -- refusals 1, 2 and 3 of a full round, and 4 of its clock; of the sheets only the lengths count
-abbrev pub fullCheck : HallState → TeamComposition → Constraints → ℕ → Roster → ℕ → ℕ → ℕ → Outcome Unit
-fullCheck h s c count r clock players qualities =
-    cond (isOver h || (sizesOver s || (constraintsOver c || ltb 8 count))) (refused 1)
+abbrev pub fullCheck : TeamComposition → Constraints → ℕ → Roster → ℕ → ℕ → ℕ → Outcome Unit
+fullCheck s c count r clock players qualities =
+    cond (sizesOver s || (constraintsOver c || ltb 8 count)) (refused 1)
     (guarded (rulesCheck r)
     (guarded (broughtPairsCheck c) (cond (areShort players qualities) (refused 3) (cond (late clock) (refused 4) (gives tt)))))
 
--- the matches that were found
-abbrev pub matchesFrom : Outcome Found → List MatchState
-matchesFrom (refused n) = []
-matchesFrom (gives f) = f .matches
+-- the numbers of a round that found this, beside its sheets as it left them
+pub record HandedNumbers (quality : MatchState → Float) (sheets : Sheets) (o : Outcome Found) (r : Handed) (players : List ℕ) (qualities : List Float) : Type 0 where
+  pub handed : record { answer = outcomeIn (r .refusal) (r .count); sheets = record { players = players; qualities = qualities } } ≡ handedOut quality (matchesIn o) sheets
+  pub count : r .count ≡ length (matchesFrom o)
+  pub tried : r .tried ≡ triedIn o
+  -- the seated stand in the first places of the sheet
+  pub fits : r .seats ≤ length players
+  pub seated : take (r .seats) players ≡ seats (matchesFrom o)
 
--- the round of what was found
-abbrev pub turnFrom : HallState → (MatchState → Float) → Sheets → Outcome Found → RoundTurn
-turnFrom h quality sheets o = record { hall = leaving h o; handed = handedOut quality (matchesIn o) sheets; tried = triedIn o }
+-- the numbers of this call over these bookings
+abbrev pub FoundNumbers : RoundCall → List Booking → Handed → List ℕ → List Float → Type 0
+FoundNumbers c ws = HandedNumbers (qualityBy (c .round)) (c .sheets) (findings c ws)

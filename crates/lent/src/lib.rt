@@ -4,11 +4,11 @@ ghost use Rattle.queue.specs.Queue.{waitOf, waitRule, holding};
 ghost use Rattle.hall.specs.Hall.{hallOf, keyedRule, book};
 ghost use Rattle.lent.specs.Reading.{readable, opened, entryWait, followed, read};
 ghost use Rattle.lent.specs.Lent.{lentTurn};
-use base::Checked;
 use base::Refusal;
+use capi::halls::Keyed;
+use capi::halls::yilgashe_hall_book;
 use hall::Booking;
 use hall::Hall;
-use hall::Keyed;
 use queue::QueueEntry;
 use queue::Wait;
 
@@ -91,17 +91,17 @@ fn hall_of(keyed: Keyed) -> Hall
     keyed.hall
 }
 
-fn answer_of(keyed: Keyed) -> Checked
-    ensures { λ r. ⌜ r ≡ keyed .answer ⌝ }
+fn refusal_of(keyed: Keyed) -> u8
+    ensures { λ r. ⌜ r ≡ keyed .refusal ⌝ }
 {
-    keyed.answer
+    keyed.refusal
 }
 
-// A booking under a key, over a hall that is lent and changed in place.
-pub fn book(hall: &mut Hall, key: u64, booking: Booking) -> Checked
+// A booking under a key, over a hall that is lent and changed in place. Its answer: 0 is accepted, n is refusal n.
+pub fn book(hall: &mut Hall, key: u64, booking: Booking) -> u8
     ensures { λ r. ⌜ lentTurn (now (hall .exit)) r ≡ keyedRule (hallOf (now (hall .entry))) key (book booking) ⌝ }
 {
-    let keyed = (*hall).book(key, booking);
+    let keyed = yilgashe_hall_book(*hall, key, booking);
     *hall = hall_of(keyed);
-    answer_of(keyed)
+    refusal_of(keyed)
 }

@@ -3,18 +3,18 @@ use Prim.Native.Nat.{ℕ, _+_, _≤_, _<_, min}
 use mathlib.Core.Path.{_≡_, refl, sym, ap, _∙_}
 use mathlib.Core.Bool.{Bool, true, false, not, cond, _||_}
 use mathlib.Core.List.{List, [], _∷_, _++_, map}
-use mathlib.Core.Option.{Option, none, some}
+use mathlib.Core.Option.{none, some}
 use native.Mathlib.Numerals.{add-one}
 use native.Mathlib.Omega.{arith}
-use borrow.Author.Tests.{lt-leb, eq-eqb, leb-true, leb-false, eqb-true}
-use lib.Dec.{eqb, leb}
+use borrow.Author.Tests.{lt-leb, eq-eqb, eqb-true}
+use lib.Dec.{eqb}
 use lib.ListN.{length, take, drop, getD, set, length-set, drop-of-length-le}
-use lib.Seq.{length-take-le, getD-take, take-all, drop-cons}
+use lib.Seq.{length-take-le, getD-take, drop-cons}
 use Rattle.base.specs.Lists.{seek, any, keep, place, removeFirst, member, All}
 use Rattle.base.proofs.Cases.{cases, never}
-use Rattle.base.proofs.Arrays.{push, take-held}
-use Rattle.base.proofs.Members.{absent-head, absent-tail, absent-cons, length-parted}
-use Rattle.base.proofs.Loops.{keep-end-of, shift-end, removed-at, removed-none, seek-at, seek-none, seek-map}
+use Rattle.base.proofs.Arrays.{push, first-many, take-held}
+use Rattle.base.proofs.Members.{absent-head, absent-tail, absent-cons, stay-nobody, length-parted}
+use Rattle.base.proofs.Loops.{keep-end-of, shift-end, gap-closed, removed-none, seek-at, seek-none, seek-map}
 use Rattle.base.specs.Refusals.{refused, gives}
 use Rattle.queue.specs.Time.{late, since}
 use Rattle.queue.specs.Queue.{Enqueuing, enqueueRule, firstWait, QueueState, holding, noEntry, isOf, isOfAny, isLate, Removing, taking, Parting, parting, firstOf, withoutFirst, withoutAll, ofAll}
@@ -25,7 +25,7 @@ use Rattle.queue.specs.declared.QueueEntry.{QueueEntry}
 -- the first k of an array are a queue of k
 pub stands : (out : List QueueEntry) (k : ℕ) (w : List QueueEntry) → k ≤ length out → take k out ≡ w → _≡_ {A = QueueState} (record { size = k; entries = take k out }) (holding w)
 stands out k w h e =
-    let s : k ≡ length w = sym (length-take-le k out h) ∙ ap length e in
+    let s : k ≡ length w = first-many out k w h e in
     λ j. record { size = s j; entries = e j }
 
 -- a row that is moved up by one as far as it goes
@@ -56,8 +56,7 @@ module _ (es : List QueueEntry) (len n at p : ℕ) (long : length es ≡ 64) (cl
   pub took-entry : (s : QueueState) → at < n → s ≡ holding (take at (take n es) ++ drop (at + 1) (take n es)) → _≡_ {A = Removing} (record { queue = s; taken = gives (some (getD es at noEntry)) }) (taking p (take len es))
   took-entry s h e =
       let in-row : place (isOf p) (take n es) < length (take n es) = omega (arith, full) in
-      let w : take at (take n es) ++ drop (at + 1) (take n es) ≡ withoutFirst p (take n es) = rw (add-one at, found) (sym (removed-at (isOf p) (take n es))) in
-      let q : s ≡ holding (withoutFirst p (take n es)) = e ∙ ap holding w in
+      let q : s ≡ holding (withoutFirst p (take n es)) = e ∙ ap holding (gap-closed (isOf p) (take n es) at found) in
       let t : some (getD es at noEntry) ≡ firstOf p (take n es) =
       ap some (sym (getD-take n es at noEntry h) ∙ ap (λ (m : ℕ). getD (take n es) m noEntry) found) ∙ sym (seek-at (isOf p) some none noEntry (take n es) in-row) in
       rw (← same) (λ j. record { queue = q j; taken = gives (t j) })
@@ -169,6 +168,4 @@ all-named ps (e ∷ es) = cases (isOfAny ps e) (λ t. rw t (t, all-named ps es))
 
 -- nobody leaves a queue where nobody is named
 pub none-named : (es : List QueueEntry) → withoutAll [] es ≡ es
-unfolding keep seek
-none-named [] = refl
-none-named (e ∷ es) = ap (λ (r : List QueueEntry). e ∷ r) (none-named es)
+none-named = stay-nobody (λ e. e .player)

@@ -1,13 +1,14 @@
 // The five calls of a hall, what each brings, and how it is made.
 use crate::rosters;
-use base::Checked;
+use capi::halls;
+use capi::halls::Keyed;
+use capi::halls::Rounded;
+use capi::scores::SoftObjectives;
 use hall::Booking;
 use hall::Hall;
-use hall::Keyed;
-use hall::rounds::Rounded;
 use objective::score::MatchObjective;
-use objective::soft::SoftObjective;
 use rosters::Roster;
+use search::beam::BeamSearch;
 use seating::Formed;
 use seating::TeamComposition;
 
@@ -105,47 +106,48 @@ pub fn is_keyed(call: Call) -> bool {
 
 // ---- answers
 
-fn refusal_of(answer: Checked) -> u8 {
-    match answer {
-        Checked::Passed => 0,
-        Checked::Refused(refusal) => refusal.number(),
-    }
-}
-
 fn keyed(made: Keyed) -> Made {
     let hall = made.hall;
-    let answer = made.answer;
     Made {
         hall: hall,
         answer: Answer {
-            refusal: refusal_of(answer),
+            refusal: made.refusal,
             matches: 0,
             tried: 0,
         },
     }
 }
 
-pub fn formed(given: Formed, tried: u64) -> Answer {
+// What a search or a generator gives, which tries nothing.
+pub fn formed(given: Formed) -> Answer {
     match given {
         Formed::Count(matches) => Answer {
             refusal: 0,
             matches: matches,
-            tried: tried,
+            tried: 0,
         },
         Formed::Refused(refusal) => Answer {
             refusal: refusal.number(),
             matches: 0,
-            tried: tried,
+            tried: 0,
         },
     }
 }
 
 fn rounded(made: Rounded) -> Made {
     let hall = made.hall;
-    let given = made.answer;
     Made {
         hall: hall,
-        answer: formed(given, made.tried),
+        answer: handed(made),
+    }
+}
+
+// What a round gives besides its hall.
+pub fn handed(made: Rounded) -> Answer {
+    Answer {
+        refusal: made.refusal,
+        matches: made.count,
+        tried: made.tried,
     }
 }
 
@@ -159,7 +161,7 @@ fn book(hall: Hall, call: Call) -> Made {
         party: 0,
         role: 0,
     };
-    keyed(hall.book(call.key, booking))
+    keyed(halls::yilgashe_hall_book(hall, call.key, booking))
 }
 
 fn greedy(
@@ -174,7 +176,15 @@ fn greedy(
         a: call.a,
         b: call.b,
     };
-    rounded(hall.greedy_round(sizes, call.time, ids, ratings, players, qualities))
+    rounded(halls::yilgashe_hall_greedy_round(
+        hall,
+        sizes,
+        call.time,
+        ids,
+        ratings,
+        players,
+        qualities,
+    ))
 }
 
 // The weight of quality and skill.
@@ -204,9 +214,11 @@ fn beam(
         ping: 0.0,
         uncertainty: 0.2,
     };
-    rounded(hall.beam_round(
+    let search = BeamSearch { width: call.width };
+    rounded(halls::yilgashe_hall_beam_round(
+        hall,
+        search,
         sizes,
-        call.width,
         objective,
         call.time,
         ids,
@@ -215,6 +227,14 @@ fn beam(
         players,
         qualities,
     ))
+}
+
+fn wait_and_skill(weight: f64) -> SoftObjectives {
+    SoftObjectives {
+        kinds: [rosters::WAIT, rosters::SKILL, 0, 0, 0, 0, 0, 0],
+        weights: [0.5, weight, 0.0, 0.0, 0.0, 0.0, 0.0, 0.0],
+        len: 2,
+    }
 }
 
 // By wait and skill. Where the width is odd, parties sit together.
@@ -233,14 +253,12 @@ fn full(
         a: call.a,
         b: call.b,
     };
-    let mut objectives = [SoftObjective::Wait(0.5); 8];
-    objectives[1] = SoftObjective::Skill(weight(call));
     let together = call.width % 2 == 1;
-    rounded(hall.full_round(
+    rounded(halls::yilgashe_hall_full_round(
+        hall,
         sizes,
         rosters::constraints(together),
-        objectives,
-        2,
+        wait_and_skill(weight(call)),
         call.time,
         ids,
         ratings,
@@ -316,7 +334,7 @@ pub fn make(
         return book(hall, call);
     }
     if call.kind == WITHDRAWAL {
-        return keyed(hall.withdraw(call.key, call.player));
+        return keyed(halls::yilgashe_hall_withdraw(hall, call.key, call.player));
     }
     make_round(hall, call, roster, players, qualities)
 }

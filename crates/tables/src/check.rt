@@ -1,11 +1,9 @@
 // What is checked of each call and of each list.
 use crate::calls;
 use calls::Answer;
+use hall::Booking;
 use hall::Hall;
-use hall::KeyLog;
-use hall::KeyRecord;
-use queue::Queue;
-use queue::QueueEntry;
+use hall::Note;
 
 // What a place for a guest holds before a round; no guest has this number.
 pub const BLANK: u64 = 999999;
@@ -48,18 +46,18 @@ pub fn are_same_qualities(x: &[f64; 64], y: &[f64; 64]) -> bool {
 
 // ---- halls
 
-fn is_same_entry(x: QueueEntry, y: QueueEntry) -> bool {
+fn is_same_booking(x: Booking, y: Booking) -> bool {
     if x.player != y.player || x.joined != y.joined {
         return false;
     }
     is_same_float(x.rating, y.rating) && x.party == y.party && x.role == y.role
 }
 
-// The first n entries.
-fn are_same_entries(x: [QueueEntry; 64], y: [QueueEntry; 64], n: usize) -> bool {
+// The first n bookings.
+fn are_same_bookings(x: [Booking; 64], y: [Booking; 64], n: usize) -> bool {
     let mut i: usize = 0;
     while i < 64 {
-        if i < n && !is_same_entry(x[i], y[i]) {
+        if i < n && !is_same_booking(x[i], y[i]) {
             return false;
         }
         i += 1;
@@ -67,24 +65,11 @@ fn are_same_entries(x: [QueueEntry; 64], y: [QueueEntry; 64], n: usize) -> bool 
     true
 }
 
-fn is_same_queue(x: Queue, y: Queue) -> bool {
-    if x.len != y.len {
-        return false;
-    }
-    let first = x.entries;
-    let second = y.entries;
-    are_same_entries(first, second, x.len)
-}
-
-fn is_same_record(x: KeyRecord, y: KeyRecord) -> bool {
-    x.key == y.key && x.player == y.player && x.kind == y.kind && x.answer == y.answer
-}
-
-// The first n records.
-fn are_same_records(x: [KeyRecord; 1024], y: [KeyRecord; 1024], n: usize) -> bool {
+// The first n keys.
+fn are_same_keys(x: &[u64; 1024], y: &[u64; 1024], n: usize) -> bool {
     let mut i: usize = 0;
     while i < 1024 {
-        if i < n && !is_same_record(x[i], y[i]) {
+        if i < n && x[i] != y[i] {
             return false;
         }
         i += 1;
@@ -92,24 +77,43 @@ fn are_same_records(x: [KeyRecord; 1024], y: [KeyRecord; 1024], n: usize) -> boo
     true
 }
 
-fn is_same_log(x: KeyLog, y: KeyLog) -> bool {
-    if x.len != y.len {
+fn is_same_note(x: Note, y: Note) -> bool {
+    x.player == y.player && x.kind == y.kind && x.answer == y.answer
+}
+
+// The first n notes.
+fn are_same_notes(x: [Note; 1024], y: [Note; 1024], n: usize) -> bool {
+    let mut i: usize = 0;
+    while i < 1024 {
+        if i < n && !is_same_note(x[i], y[i]) {
+            return false;
+        }
+        i += 1;
+    }
+    true
+}
+
+fn is_same_log(x: Hall, y: Hall) -> bool {
+    let keys = x.keys;
+    let other_keys = y.keys;
+    if !are_same_keys(&keys, &other_keys, x.noted) {
         return false;
     }
-    let first = x.records;
-    let second = y.records;
-    are_same_records(first, second, x.len)
+    let notes = x.notes;
+    let other_notes = y.notes;
+    are_same_notes(notes, other_notes, x.noted)
 }
 
 pub fn is_same_hall(x: Hall, y: Hall) -> bool {
-    let first = x.waiting;
-    let second = y.waiting;
-    if !is_same_queue(first, second) {
+    if x.waiting != y.waiting || x.noted != y.noted {
         return false;
     }
-    let log = x.log;
-    let other = y.log;
-    is_same_log(log, other)
+    let bookings = x.bookings;
+    let other = y.bookings;
+    if !are_same_bookings(bookings, other, x.waiting) {
+        return false;
+    }
+    is_same_log(x, y)
 }
 
 // ---- seats
@@ -138,18 +142,6 @@ pub fn written(players: &[u64; 64]) -> u64 {
     n
 }
 
-fn waits(entries: [QueueEntry; 64], n: usize, player: u64) -> bool {
-    let mut i: usize = 0;
-    while i < 64 {
-        let entry = entries[i];
-        if i < n && entry.player == player {
-            return true;
-        }
-        i += 1;
-    }
-    false
-}
-
 // Does the player sit at one of the first n places?
 fn sits(players: &[u64; 64], n: usize, player: u64) -> bool {
     let mut i: usize = 0;
@@ -163,19 +155,19 @@ fn sits(players: &[u64; 64], n: usize, player: u64) -> bool {
 }
 
 // One place of the sheet: a seat is of someone who waited and sits at no earlier place; past the seats nothing is written.
-fn is_fair(before: Queue, players: &[u64; 64], seats: usize, place: usize, player: u64) -> bool {
+fn is_fair(before: Hall, players: &[u64; 64], seats: usize, place: usize, player: u64) -> bool {
     if seats <= place {
         return player == BLANK;
     }
     if sits(players, place, player) {
         return false;
     }
-    let entries = before.entries;
-    waits(entries, before.len, player)
+    let bookings = before.bookings;
+    hall::waiting::waits(bookings, before.waiting, player)
 }
 
 // Every place of the sheet.
-pub fn are_fair(before: Queue, players: &[u64; 64], seats: usize) -> bool {
+pub fn are_fair(before: Hall, players: &[u64; 64], seats: usize) -> bool {
     let mut i: usize = 0;
     while i < 64 {
         if !is_fair(before, players, seats, i, players[i]) {

@@ -5,14 +5,15 @@ use crate::story;
 use crate::text;
 use calls::Call;
 use candidate::exhaustive::ExhaustiveGenerator;
+use capi::halls;
+use capi::scores::SoftObjectives;
+use hall::Booking;
 use hall::Hall;
-use hall::KeyLog;
 use matchmaker::ProposedMatch;
 use matchmaker::Quality;
 use matchmaker::Team;
 use objective::pareto::MatchObjectiveVector;
 use objective::score::MatchObjective;
-use objective::soft::SoftObjective;
 use queue::Queue;
 use queue::QueueEntry;
 use search::beam::BeamSearch;
@@ -84,7 +85,7 @@ fn greedy(a: usize, b: usize) {
         &mut players,
         &mut qualities,
     );
-    let answer = calls::formed(given, 0);
+    let answer = calls::formed(given);
     title(b"greedy ", a, b);
     text::handed(answer, &players, a, b);
     if answer.matches != 0 {
@@ -122,7 +123,7 @@ fn beam_at(clock: u64, width: usize, a: usize, b: usize) {
         &mut players,
         &mut qualities,
     );
-    text::handed(calls::formed(given, 0), &players, a, b);
+    text::handed(calls::formed(given), &players, a, b);
     text::say(b"\n");
 }
 
@@ -146,7 +147,7 @@ fn exhaustive(n: usize, a: usize, b: usize) {
     text::say(b"exhaustive of ");
     text::number(n as u64);
     title(b", ", a, b);
-    text::handed(calls::formed(given, 0), &players, a, b);
+    text::handed(calls::formed(given), &players, a, b);
     text::say(b"\n");
 }
 
@@ -166,7 +167,7 @@ fn reference(words: &[u8], joined: u64) {
     text::say(b"reference 1000, guest 2 of 1010 before guest 3 of 990");
     text::say(words);
     text::say(b": ");
-    text::handed(calls::formed(given, 0), &players, 1, 1);
+    text::handed(calls::formed(given), &players, 1, 1);
     text::say(b"\n");
 }
 
@@ -224,30 +225,48 @@ fn told(hall: Hall, call: Call) -> Hall {
     let mut qualities = [0.0f64; 64];
     let made = calls::make(hall, call, rosters::guests(), &mut players, &mut qualities);
     let after = made.hall;
-    let waiting = after.waiting;
-    story::tell(call, false, made.answer, &players, waiting.len);
+    story::tell(call, false, made.answer, &players, after.waiting);
     after
 }
 
 // Each of the later calls meets the hall that the first one left.
 fn bookings() {
-    let hall = told(Hall::empty(), calls::booking(7, 1, 1000.0, 0));
+    let hall = told(
+        halls::yilgashe_hall_empty(),
+        calls::booking(7, 1, 1000.0, 0),
+    );
     told(hall, calls::booking(7, 1, 1000.0, 0));
     told(hall, calls::booking(7, 2, 1280.0, 0));
     told(hall, calls::booking(8, 1, 1000.0, 0));
 }
 
-// A hall where guests 1, 2 and 3 wait.
-fn three_waiting() -> Hall {
-    Hall {
-        waiting: guests(3),
-        log: empty_log(),
+fn booked(player: u64, rating: f64) -> Booking {
+    Booking {
+        player: player,
+        joined: 0,
+        rating: rating,
+        party: 0,
+        role: 0,
     }
 }
 
-fn empty_log() -> KeyLog {
-    let hall = Hall::empty();
-    hall.log
+// A hall where guests 1, 2 and 3 wait.
+fn three_waiting() -> Hall {
+    let mut hall = halls::yilgashe_hall_empty();
+    hall.bookings[0] = booked(1, 1000.0);
+    hall.bookings[1] = booked(2, 1280.0);
+    hall.bookings[2] = booked(3, 1010.0);
+    hall.waiting = 3;
+    hall
+}
+
+// The wait objective, with weight 1.0.
+fn by_wait() -> SoftObjectives {
+    SoftObjectives {
+        kinds: [rosters::WAIT; 8],
+        weights: [1.0; 8],
+        len: 1,
+    }
 }
 
 // The full round of guests 1, 2 and 3 by the wait objective only.
@@ -260,12 +279,11 @@ fn full_round() {
     let mut players = [0u64; 64];
     let mut qualities = [0.0f64; 64];
     let sizes = TeamComposition { a: 1, b: 1 };
-    let hall = three_waiting();
-    let rounded = hall.full_round(
+    let rounded = halls::yilgashe_hall_full_round(
+        three_waiting(),
         sizes,
         rosters::constraints(false),
-        [SoftObjective::Wait(1.0); 8],
-        1,
+        by_wait(),
         0,
         &ids,
         &ratings,
@@ -275,9 +293,8 @@ fn full_round() {
         &mut players,
         &mut qualities,
     );
-    let given = rounded.answer;
     text::say(b"full round of 3, 1+1: ");
-    text::handed(calls::formed(given, 0), &players, 1, 1);
+    text::handed(calls::handed(rounded), &players, 1, 1);
     text::say(b", tried ");
     text::number(rounded.tried);
     text::say(b"\n");
@@ -318,7 +335,7 @@ fn every_pair(guests: usize) {
     text::say(b"exhaustive of ");
     text::number(guests as u64);
     text::say(b", 1+1: ");
-    text::count(calls::formed(given, 0));
+    text::count(calls::formed(given));
     text::say(b"\n");
 }
 
@@ -332,5 +349,8 @@ fn clock(nanos: u64) {
         three_waiting(),
         calls::round(calls::GREEDY, 1, 1, 0, nanos, calls::SOUND),
     );
-    told(Hall::empty(), calls::booking(1, 1, 1000.0, nanos));
+    told(
+        halls::yilgashe_hall_empty(),
+        calls::booking(1, 1, 1000.0, nanos),
+    );
 }

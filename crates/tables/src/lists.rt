@@ -8,6 +8,7 @@ use crate::story;
 use crate::tally;
 use calls::Answer;
 use calls::Call;
+use capi::halls;
 use hall::Hall;
 use originals::Mark;
 use originals::Originals;
@@ -28,8 +29,8 @@ pub struct Run {
 
 fn start(told: bool, tally: Tally) -> Run {
     Run {
-        whole: Hall::empty(),
-        thinned: Hall::empty(),
+        whole: halls::yilgashe_hall_empty(),
+        thinned: halls::yilgashe_hall_empty(),
         originals: originals::none(),
         accepted: 0,
         withdrawn: 0,
@@ -50,14 +51,10 @@ fn seats(call: Call, answer: Answer) -> usize {
     check::seats(answer.matches, std::num::wrapping_add_usize(call.a, call.b))
 }
 
-fn waiting(hall: Hall) -> usize {
-    let queue = hall.waiting;
-    queue.len
-}
-
 fn tell(run: Run, call: Call, resend: bool, answer: Answer, players: &[u64; 64]) {
     if run.told {
-        story::tell(call, resend, answer, players, waiting(run.whole));
+        let hall = run.whole;
+        story::tell(call, resend, answer, players, hall.waiting);
     }
 }
 
@@ -130,9 +127,8 @@ impl Run {
         players: &mut [u64; 64],
         qualities: &mut [f64; 64],
     ) -> Stepped {
-        let hall = self.whole;
-        let before = hall.waiting;
-        let made = calls::make(hall, call, roster, players, qualities);
+        let before = self.whole;
+        let made = calls::make(before, call, roster, players, qualities);
         let answer = made.answer;
         let after = made.hall;
         let mut run = self;
@@ -207,7 +203,7 @@ impl Run {
         let thinned = self.thinned;
         let same = self.checked(check::is_same_hall(whole, thinned));
         let left = tally::add(self.withdrawn, self.seated);
-        same.checked(self.accepted == tally::add(waiting(whole) as u64, left))
+        same.checked(self.accepted == tally::add(whole.waiting as u64, left))
     }
 }
 

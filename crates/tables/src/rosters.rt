@@ -1,12 +1,16 @@
 // Rosters by value, and what a full round brings.
+use capi::rules::Constraints;
+use capi::rules::RoleRequirement;
+use capi::rules::RoleRequirements;
 use constraint::Brought;
-use constraint::Constraints;
 use constraint::regions::RegionConstraint;
 use constraint::regions::RegionPair;
-use constraint::roles::Maximum;
-use constraint::roles::RoleConstraint;
-use constraint::roles::RoleRequirement;
 use constraint::sizes::TeamSizeConstraint;
+
+// The soft objectives that are used here, as a full round takes them.
+pub const SKILL: u8 = 0;
+
+pub const WAIT: u8 = 2;
 
 // Guests 1 to 128, by row.
 pub struct Roster {
@@ -68,7 +72,8 @@ pub fn constraints(together: bool) -> Constraints {
     let requirement = RoleRequirement {
         role: 0,
         least: 0,
-        most: Maximum::Unbounded,
+        bounded: false,
+        most: 0,
     };
     let pair = RegionPair {
         first: 0,
@@ -83,9 +88,9 @@ pub fn constraints(together: bool) -> Constraints {
             regions: false,
         },
         sizes: TeamSizeConstraint { a: 0, b: 0 },
-        roles: RoleConstraint {
-            requirements: [requirement; 8],
-            count: 0,
+        roles: RoleRequirements {
+            items: [requirement; 8],
+            len: 0,
         },
         regions: RegionConstraint {
             pairs: [pair; 16],

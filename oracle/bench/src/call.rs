@@ -8,7 +8,7 @@ pub trait Call: Send + 'static {
     type Rust: Send;
     type Library: Send;
 
-    /// The Rust's call.
+    /// The call of the Rust, or of what stands in its place.
     fn rust(&self) -> Self::Rust;
     /// The library's call, as a caller from Rust makes it.
     fn library(&mut self) -> Self::Library;

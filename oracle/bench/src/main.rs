@@ -4,6 +4,7 @@ mod call;
 mod crowd;
 mod growth;
 mod options;
+mod plain;
 mod rows;
 mod stack;
 mod table;

@@ -16,7 +16,7 @@ use crate::same::Same;
 use beside::beside_rust;
 use demand::{Ledger, Mark};
 use std::fmt::Debug;
-use yilgashe_sys::{Hall, KeyLog, Queue};
+use yilgashe_sys::{Hall, Note};
 
 /// Lists until so many calls are made, then a quarter as many single calls; `show` gets each difference in words.
 pub fn run<L: Counter, M: Counter>(seed: u64, calls: u64, show: &mut dyn FnMut(String)) -> Counts {
@@ -95,7 +95,7 @@ pub fn judge_single<L: Counter, M: Counter>(
     let (answer, expected) = (library.serve(call), model.serve(call));
     counts.count_single(&answer);
     let agreed = agree(call, (&answer, &library.hall()), (&expected, &model.hall()));
-    agreed.map_err(|difference| format!("{difference}\n  before: {:?}", hall.waiting))?;
+    agreed.map_err(|difference| format!("{difference}\n  before: {:?}", hall.queue()))?;
     counts.held_single.count(beside_rust(call, &answer, hall)?);
     Ok(())
 }
@@ -109,15 +109,15 @@ fn agree(
     if answer.same(expected) && hall.same(expected_hall) {
         return Ok(());
     }
-    let (queue, log) = (&hall.waiting, &hall.log);
-    let (expected_queue, expected_log) = (&expected_hall.waiting, &expected_hall.log);
+    let answered = |hall: &Hall| -> Vec<(u64, Note)> { hall.answered().collect() };
+    let (queue, expected_queue) = (hall.queue(), expected_hall.queue());
     let waiting = parted(queue.waiting(), expected_queue.waiting());
-    let notes = parted(log.noted(), expected_log.noted());
-    let lens = |queue: &Queue, log: &KeyLog| format!("{} wait, {} notes", queue.len, log.len);
+    let notes = parted(&answered(hall), &answered(expected_hall));
+    let numbers = |hall: &Hall| format!("{} wait, {} notes", hall.waiting, hall.noted);
     Err(format!(
         "{call:?}\n  expected: {expected:?}; {}\n  library:  {answer:?}; {}\n  waiting: {waiting}\n  notes: {notes}",
-        lens(expected_queue, expected_log),
-        lens(queue, log)
+        numbers(expected_hall),
+        numbers(hall)
     ))
 }
 

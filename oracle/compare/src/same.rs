@@ -1,7 +1,7 @@
 //! When two answers are the same: floats bit for bit, save that all NaNs are equal and both zeros are equal.
 
 use crate::data::{Answer, Sheets};
-use yilgashe_sys::{Hall, KeyLog, KeyRecord, MatchObjectiveVector, Queue, QueueEntry};
+use yilgashe_sys::{Hall, MatchObjectiveVector, Note, Queue, QueueEntry};
 
 pub trait Same {
     fn same(&self, other: &Self) -> bool;
@@ -25,7 +25,7 @@ macro_rules! exactly {
         })*
     };
 }
-exactly!((), bool, u8, u32, u64, usize, KeyRecord);
+exactly!((), bool, u8, u32, u64, usize, Note);
 
 impl<T: Same> Same for [T] {
     fn same(&self, other: &Self) -> bool {
@@ -79,17 +79,13 @@ impl Same for Sheets {
     }
 }
 
-/// As a queue: places past `len` are free.
-impl Same for KeyLog {
-    fn same(&self, other: &Self) -> bool {
-        self.len == other.len && self.noted().same(other.noted())
-    }
-}
-
-/// All that it holds, in its order.
+/// All that it holds, in its order. Of keys and notes too, places past the stated number are free, and a number over 1,024 counts with
+/// all places.
 impl Same for Hall {
     fn same(&self, other: &Self) -> bool {
-        self.waiting.same(&other.waiting) && self.log.same(&other.log)
+        self.queue().same(&other.queue())
+            && self.noted == other.noted
+            && self.answered().eq(other.answered())
     }
 }
 
@@ -109,6 +105,7 @@ impl Same for MatchObjectiveVector {
 #[cfg(test)]
 mod tests {
     use super::*;
+    use yilgashe_sys::Booking;
 
     #[test]
     fn floats() {
@@ -176,31 +173,51 @@ mod tests {
     }
 
     #[test]
-    fn halls_count_up_to_len() {
-        let record = |key| KeyRecord {
-            key,
+    fn halls_count_up_to_their_numbers() {
+        let note = Note {
             player: 1,
             kind: 0,
             answer: 9,
         };
-        let hall = Hall {
-            waiting: Queue::of(&[entry(1)]),
-            log: KeyLog::of(&[record(1), record(2)]),
-        };
+        let hall = Hall::of(&[Booking::of(&entry(1))], &[(1, note), (2, note)]);
         let mut other = hall;
-        other.waiting.entries[1] = entry(9);
-        other.log.records[2] = record(9);
+        other.bookings[1] = Booking::of(&entry(9));
+        (other.keys[2], other.notes[2].answer) = (9, 0);
         assert!(hall.same(&other));
-        other.log.records[1].answer = 0;
-        assert!(!hall.same(&other));
-        other = hall;
-        other.waiting.entries[0].rating = 3.0;
-        assert!(!hall.same(&other));
-        other = hall;
-        other.log.len = 1;
-        assert!(!hall.same(&other));
-        other.log.len = 1025;
-        assert!(!hall.same(&other));
+        let changes: [fn(&mut Hall); 9] = [
+            |hall| hall.bookings[0].rating = 3.0,
+            |hall| hall.waiting = 0,
+            |hall| hall.waiting = 2,
+            |hall| hall.keys[1] = 9,
+            |hall| hall.notes[1].player = 9,
+            |hall| hall.notes[1].kind = 1,
+            |hall| hall.notes[1].answer = 0,
+            |hall| hall.noted = 1,
+            |hall| hall.noted = 1025,
+        ];
+        for change in changes {
+            let mut other = hall;
+            change(&mut other);
+            assert!(!hall.same(&other));
+        }
+    }
+
+    #[test]
+    fn halls_over_limit_count_whole() {
+        let mut hall = Hall::of(&[], &[]);
+        (hall.waiting, hall.noted) = (65, 1025);
+        assert!(hall.same(&hall.clone()));
+        let changes: [fn(&mut Hall); 4] = [
+            |hall| hall.bookings[63].player = 9,
+            |hall| hall.waiting = 66,
+            |hall| hall.keys[1023] = 9,
+            |hall| hall.noted = 1026,
+        ];
+        for change in changes {
+            let mut other = hall;
+            change(&mut other);
+            assert!(!hall.same(&other));
+        }
     }
 
     #[test]

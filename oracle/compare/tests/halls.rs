@@ -92,6 +92,20 @@ wrong!(NotesClashes, hall, call, {
     answer
 });
 
+wrong!(HearsNotesOfNoCall, hall, call, {
+    let first = |key| hall.notes.iter().find(|note| note.key == key).copied();
+    let noted = call.key().and_then(first);
+    let answer = hall.answer(call);
+    match (call, noted) {
+        (Call::Withdraw { player, .. }, Some(note))
+            if note.kind != Kind::Booking && note.guest == *player =>
+        {
+            Answer::keyed(note.answer)
+        }
+        _ => answer,
+    }
+});
+
 wrong!(StoresNothing, hall, call, {
     let answer = hall.answer(call);
     if let (Call::Book { .. }, 0) = (call, answer.refusal) {
@@ -261,6 +275,7 @@ fn other_rules_are_found_out() {
         ("books resends", found::<BooksResends>()),
         ("forgets refusal 9", found::<ForgetsRefusalNine>()),
         ("notes clashes", found::<NotesClashes>()),
+        ("hears notes of no call", found::<HearsNotesOfNoCall>()),
         ("stores nothing", found::<StoresNothing>()),
         ("first of equal best", found::<TakesTheFirstOfEqualBest>()),
         ("worst choice", found::<TakesTheWorst>()),

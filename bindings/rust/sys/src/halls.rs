@@ -3,39 +3,8 @@
 use crate::{
     BeamSearch, Constraints, MatchObjective, Queue, QueueEntry, SoftObjectives, TeamComposition,
 };
-use std::fmt::{Debug, Formatter, Result};
 
-/// One keyed call that was answered.
-#[repr(C)]
-#[derive(Clone, Copy, Debug, Default, PartialEq)]
-pub struct KeyRecord {
-    /// The caller's key.
-    pub key: u64,
-    /// Whom the call was for.
-    pub player: u64,
-    /// 0 a booking, 1 a withdrawal.
-    pub kind: u8,
-    /// 0 accepted, else the refusal's number.
-    pub answer: u8,
-}
-
-/// The first `len` records are noted, in the order of coming; places past `len` mean nothing.
-#[repr(C)]
-#[derive(Clone, Copy)]
-pub struct KeyLog {
-    pub records: [KeyRecord; 1024],
-    pub len: usize,
-}
-
-/// Who waits, and which keys are noted.
-#[repr(C)]
-#[derive(Clone, Copy, Debug)]
-pub struct Hall {
-    pub waiting: Queue,
-    pub log: KeyLog,
-}
-
-/// What a booking brings beside its key.
+/// What a booking brings beside its key, and what waits.
 #[repr(C)]
 #[derive(Clone, Copy, Debug, Default, PartialEq)]
 pub struct Booking {
@@ -49,6 +18,30 @@ pub struct Booking {
     pub party: u64,
     /// 0 for none.
     pub role: u32,
+}
+
+/// What is noted beside a key.
+#[repr(C)]
+#[derive(Clone, Copy, Debug, Default, PartialEq)]
+pub struct Note {
+    /// Whom the call was for.
+    pub player: u64,
+    /// 0 a booking, 1 a withdrawal.
+    pub kind: u8,
+    /// 0 accepted, else the refusal's number.
+    pub answer: u8,
+}
+
+/// The first `waiting` bookings wait, in the order of coming. The first `noted` keys are noted, in the order of coming, each with the
+/// note at its place. The places behind mean nothing.
+#[repr(C)]
+#[derive(Clone, Copy)]
+pub struct Hall {
+    pub bookings: [Booking; 64],
+    pub waiting: usize,
+    pub keys: [u64; 1024],
+    pub notes: [Note; 1024],
+    pub noted: usize,
 }
 
 /// The hall as a keyed call leaves it.
@@ -69,20 +62,39 @@ pub struct Rounded {
     pub refusal: u8,
 }
 
-impl KeyLog {
-    /// Holds `records`, with `len` saying so; at most 1,024.
-    pub fn of(records: &[KeyRecord]) -> Self {
-        let mut log = KeyLog {
-            records: [KeyRecord::default(); 1024],
-            len: records.len(),
+impl Hall {
+    /// With these bookings, and these keys with their notes; at most 64 and 1,024.
+    pub fn of(bookings: &[Booking], answered: &[(u64, Note)]) -> Self {
+        let mut hall = Hall {
+            bookings: [Booking::default(); 64],
+            waiting: bookings.len(),
+            keys: [0; 1024],
+            notes: [Note::default(); 1024],
+            noted: answered.len(),
         };
-        log.records[..records.len()].copy_from_slice(records);
-        log
+        hall.bookings[..bookings.len()].copy_from_slice(bookings);
+        for (place, &(key, note)) in answered.iter().enumerate() {
+            (hall.keys[place], hall.notes[place]) = (key, note);
+        }
+        hall
     }
 
-    /// The records that are noted; all 1,024 where `len` is over 1,024.
-    pub fn noted(&self) -> &[KeyRecord] {
-        &self.records[..self.len.min(1024)]
+    /// The bookings that wait; all 64 where `waiting` is over 64.
+    pub fn booked(&self) -> &[Booking] {
+        &self.bookings[..self.waiting.min(64)]
+    }
+
+    /// Those who wait, as a queue that states their number, over 64 too.
+    pub fn queue(&self) -> Queue {
+        Queue {
+            entries: self.bookings.map(|booking| booking.entry()),
+            len: self.waiting,
+        }
+    }
+
+    /// The keys that are noted, each with its note; all 1,024 where `noted` is over 1,024.
+    pub fn answered(&self) -> impl ExactSizeIterator<Item = (u64, Note)> {
+        (0..self.noted.min(1024)).map(|place| (self.keys[place], self.notes[place]))
     }
 }
 
@@ -97,15 +109,16 @@ impl Booking {
             role: entry.role,
         }
     }
-}
 
-impl Debug for KeyLog {
-    fn fmt(&self, f: &mut Formatter<'_>) -> Result {
-        write!(f, "key log of len {}", self.len)?;
-        for record in self.noted() {
-            write!(f, "\n      {record:?}")?;
+    /// The entry that it makes in a round's queue.
+    pub fn entry(&self) -> QueueEntry {
+        QueueEntry {
+            player: self.player,
+            joined: self.joined,
+            rating: self.rating,
+            party: self.party,
+            role: self.role,
         }
-        Ok(())
     }
 }
 
@@ -167,18 +180,24 @@ unsafe extern "C" {
     ) -> Rounded;
 }
 
+// Inlined, so that a hall is copied once on its way in: a frame of its own would copy it once more.
+
+#[inline]
 pub fn hall_empty() -> Hall {
     yilgashe_hall_empty()
 }
 
+#[inline]
 pub fn hall_book(hall: Hall, key: u64, booking: Booking) -> Keyed {
     yilgashe_hall_book(hall, key, booking)
 }
 
+#[inline]
 pub fn hall_withdraw(hall: Hall, key: u64, player: u64) -> Keyed {
     yilgashe_hall_withdraw(hall, key, player)
 }
 
+#[inline]
 pub fn hall_greedy_round(
     hall: Hall,
     sizes: TeamComposition,
@@ -206,6 +225,7 @@ pub fn hall_greedy_round(
     }
 }
 
+#[inline]
 #[allow(clippy::too_many_arguments)] // as many as the library's function takes
 pub fn hall_beam_round(
     hall: Hall,
@@ -241,6 +261,7 @@ pub fn hall_beam_round(
     }
 }
 
+#[inline]
 #[allow(clippy::too_many_arguments)] // as many as the library's function takes
 pub fn hall_full_round(
     hall: Hall,

@@ -46,10 +46,9 @@ layout! {
     GreedyNearestGenerator, 8, max at 0;
     Formed, 16, count at 0, refusal at 8;
     Chosen, 160, teams at 0, tried at 144, found at 152, refusal at 153;
-    KeyRecord, 24, key at 0, player at 8, kind at 16, answer at 17;
-    KeyLog, 24584, records at 0, len at 24576;
-    Hall, 27152, waiting at 0, log at 2568;
     Booking, 40, player at 0, joined at 8, rating at 16, party at 24, role at 32;
+    Note, 16, player at 0, kind at 8, answer at 9;
+    Hall, 27152, bookings at 0, waiting at 2560, keys at 2568, notes at 10760, noted at 27144;
     Keyed, 27160, hall at 0, refusal at 27152;
     Rounded, 27176, hall at 0, count at 27152, tried at 27160, refusal at 27168;
 }

@@ -1,6 +1,6 @@
-//! How queues, matches and lists of objectives print: an entry, team or list a line, the bits of a rating beside it.
+//! How queues, halls, matches and lists of objectives print: an entry, key, team or list a line, the bits of a rating beside it.
 
-use crate::{ProposedMatch, Queue, QueueEntry, SoftObjectives, Team};
+use crate::{Hall, ProposedMatch, Queue, QueueEntry, SoftObjectives, Team};
 use std::fmt::{Debug, Formatter, Result};
 
 impl Debug for QueueEntry {
@@ -23,6 +23,16 @@ impl Debug for Queue {
         write!(f, "queue of len {}", self.len)?;
         for (place, entry) in self.waiting().iter().enumerate() {
             write!(f, "\n      {place:2}: {entry:?}")?;
+        }
+        Ok(())
+    }
+}
+
+impl Debug for Hall {
+    fn fmt(&self, f: &mut Formatter<'_>) -> Result {
+        write!(f, "hall, {:?}\n      {} noted", self.queue(), self.noted)?;
+        for (key, note) in self.answered() {
+            write!(f, "\n      key {key}: {note:?}")?;
         }
         Ok(())
     }

@@ -571,47 +571,62 @@ fn seats_of_a_choice() {
     assert_eq!((wide.refusal, wide.found, wide.tried), (6, false, 0));
 }
 
-fn record(key: u64, player: u64, kind: u8, answer: u8) -> KeyRecord {
-    KeyRecord {
-        key,
+fn noted(key: u64, player: u64, kind: u8, answer: u8) -> (u64, Note) {
+    let note = Note {
         player,
         kind,
         answer,
-    }
+    };
+    (key, note)
 }
 
-/// Each booking makes its entry and its record; the 65th meets a full hall, and a resend the noted answer.
+fn booking(n: u64) -> Booking {
+    Booking::of(&entry(n))
+}
+
+/// Those who wait in the queue wait in the hall.
+fn hall_of(queue: &Queue, answered: &[(u64, Note)]) -> Hall {
+    let bookings: Vec<Booking> = queue.waiting().iter().map(Booking::of).collect();
+    Hall::of(&bookings, answered)
+}
+
+fn answered(hall: &Hall) -> Vec<(u64, Note)> {
+    hall.answered().collect()
+}
+
+/// Each booking waits as it came, and its key gets its note; the 65th meets a full hall, and a resend the noted answer.
 #[test]
 fn fields_of_bookings() {
     let mut hall = hall_empty();
-    assert_eq!((hall.waiting.len, hall.log.len), (0, 0));
+    assert_eq!((hall.waiting, hall.noted), (0, 0));
     for n in 0..65 {
-        let told = hall_book(hall, !wide(n), Booking::of(&entry(n)));
+        let told = hall_book(hall, !wide(n), booking(n));
         assert_eq!(told.refusal, if n == 64 { 10 } else { 0 });
         hall = told.hall;
-        let noted = record(!wide(n), wide(n), 0, told.refusal);
-        assert_eq!(hall.log.noted().last(), Some(&noted));
+        let last = noted(!wide(n), wide(n), 0, told.refusal);
+        assert_eq!(hall.answered().last(), Some(last));
     }
-    let again = hall_book(hall, !wide(64), Booking::of(&entry(64)));
-    assert_eq!((again.refusal, again.hall.log.len), (10, 65));
-    assert_eq!(again.hall.waiting.len, 64);
-    assert!((0..64).all(|n| again.hall.waiting.entries[n as usize] == entry(n)));
+    let again = hall_book(hall, !wide(64), booking(64));
+    assert_eq!((again.refusal, again.hall.noted), (10, 65));
+    assert_eq!(again.hall.waiting, 64);
+    assert!((0..64).all(|n| again.hall.bookings[n as usize] == booking(n)));
     let left = hall_withdraw(hall, 5, wide(0));
-    assert_eq!((left.refusal, left.hall.waiting.len), (0, 63));
-    assert_eq!(left.hall.waiting.entries[62], entry(63));
+    assert_eq!((left.refusal, left.hall.waiting), (0, 63));
+    assert_eq!(left.hall.bookings[62], booking(63));
+    assert_eq!(left.hall.bookings[62].entry(), entry(63));
     let gone = hall_withdraw(left.hall, 6, wide(0));
     assert_eq!(gone.refusal, 11);
-    let noted = [record(5, wide(0), 1, 0), record(6, wide(0), 1, 11)];
-    assert_eq!(gone.hall.log.noted()[65..], noted);
+    let last = [noted(5, wide(0), 1, 0), noted(6, wide(0), 1, 11)];
+    assert_eq!(answered(&gone.hall)[65..], last);
 }
 
-/// A log of 1,024 records, every field of its own, comes back from a call that it refuses, and answers by any of them.
+/// 1,024 keys and notes, every field of its own, come back from a call that is refused, and answer by any of them.
 #[test]
-fn records_of_a_key_log() {
+fn fields_of_notes() {
     let answers = [0, 4, 9, 10, 0, 11, 0, 11];
-    let records: Vec<KeyRecord> = (0..1024)
+    let notes: Vec<(u64, Note)> = (0..1024)
         .map(|n| {
-            record(
+            noted(
                 0x1122_3344_5566_0000 + n,
                 0x99aa_bbcc_ddee_0000 + n,
                 (n / 4 % 2) as u8,
@@ -619,48 +634,39 @@ fn records_of_a_key_log() {
             )
         })
         .collect();
-    let mut hall = Hall {
-        waiting: full_queue(),
-        log: KeyLog::of(&records),
-    };
-    let told = hall_book(hall, 1, Booking::of(&entry(0)));
+    let mut hall = hall_of(&full_queue(), &notes);
+    let told = hall_book(hall, 1, booking(0));
     assert_eq!(told.refusal, 8);
-    assert_eq!(told.hall.log.noted(), records);
-    assert_eq!(told.hall.waiting.waiting(), hall.waiting.waiting());
-    for noted in records.iter().step_by(31) {
-        let booking = Booking {
-            player: noted.player,
-            ..Booking::of(&entry(0))
+    assert_eq!(answered(&told.hall), notes);
+    assert_eq!(told.hall.booked(), hall.booked());
+    for &(key, note) in notes.iter().step_by(31) {
+        let again = Booking {
+            player: note.player,
+            ..booking(0)
         };
-        let booked = hall_book(hall, noted.key, booking);
-        let left = hall_withdraw(hall, noted.key, noted.player);
-        let due = if noted.kind == 0 {
-            (noted.answer, 7)
+        let booked = hall_book(hall, key, again);
+        let left = hall_withdraw(hall, key, note.player);
+        let due = if note.kind == 0 {
+            (note.answer, 7)
         } else {
-            (7, noted.answer)
+            (7, note.answer)
         };
         assert_eq!((booked.refusal, left.refusal), due);
     }
-    hall.log.len = 1025;
+    hall.noted = 1025;
+    assert_eq!(hall_withdraw(hall, 1, 1).refusal, 1);
+    (hall.noted, hall.waiting) = (1024, 65);
     assert_eq!(hall_withdraw(hall, 1, 1).refusal, 1);
 }
 
 fn hall_of_four() -> Hall {
-    Hall {
-        waiting: four(),
-        log: KeyLog::of(&[record(wide(1), 1, 0, 0)]),
-    }
+    hall_of(&four(), &[noted(wide(1), 1, 0, 0)])
 }
 
 /// Who still waits after a round, by which the hall's place in the answer shows.
 fn left(told: &Rounded) -> Vec<u64> {
-    assert_eq!(told.hall.log.noted(), [record(wide(1), 1, 0, 0)]);
-    told.hall
-        .waiting
-        .waiting()
-        .iter()
-        .map(|e| e.player)
-        .collect()
+    assert_eq!(answered(&told.hall), [noted(wide(1), 1, 0, 0)]);
+    told.hall.booked().iter().map(|b| b.player).collect()
 }
 
 #[test]

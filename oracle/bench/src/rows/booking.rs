@@ -6,11 +6,11 @@ use compare::rng::Rng;
 use std::cell::RefCell;
 use yilgashe_sys::{self as library, Booking, Hall, Keyed, QueueEntry};
 
-const CASES: usize = 16;
+pub const CASES: usize = 16;
 /// One more fits.
-const NOTED: u64 = 1023;
+pub const NOTED: u64 = 1023;
 /// Of the noted bookings so many are accepted, and the rest come late.
-const WAITING: u64 = 32;
+pub const WAITING: u64 = 32;
 
 pub fn row(seed: u64) -> Row {
     let cases =
@@ -19,6 +19,30 @@ pub fn row(seed: u64) -> Row {
         format!("booking, {NOTED} keys noted (beside the model)"),
         cases.collect(),
     )
+}
+
+/// The key before all that are noted.
+pub fn first_key(rng: &mut Rng) -> u64 {
+    rng.below(1 << 20) as u64
+}
+
+/// The booking of guest `number`, who comes in time if he is among the first `waiting`.
+pub fn entry(number: u64, waiting: u64) -> QueueEntry {
+    QueueEntry {
+        player: number,
+        joined: if number < waiting { number } else { u64::MAX },
+        rating: 1000.0 + number as f64,
+        ..QueueEntry::default()
+    }
+}
+
+/// Under the keys from `first` up all bookings are noted, and so many wait.
+pub fn noted_hall(first: u64, waiting: u64) -> Hall {
+    let booked = |hall, number| {
+        let booking = Booking::of(&entry(number, waiting));
+        library::hall_book(hall, first + number, booking).hall
+    };
+    (0..NOTED).fold(library::hall_empty(), booked)
 }
 
 struct Booked {
@@ -31,17 +55,9 @@ struct Booked {
 impl Booked {
     fn drawn(rng: &mut Rng) -> Self {
         let mut model = hall::Hall::default();
-        let mut hall = library::hall_empty();
-        let first = rng.below(1 << 20) as u64;
+        let first = first_key(rng);
         for number in 0..NOTED {
-            let entry = QueueEntry {
-                player: number,
-                joined: if number < WAITING { number } else { u64::MAX },
-                rating: 1000.0 + number as f64,
-                ..QueueEntry::default()
-            };
-            model.book(first + number, entry);
-            hall = library::hall_book(hall, first + number, Booking::of(&entry)).hall;
+            model.book(first + number, entry(number, WAITING));
         }
         Booked {
             key: first + NOTED,
@@ -50,7 +66,7 @@ impl Booked {
                 ..QueueEntry::default()
             },
             model: RefCell::new(model),
-            hall,
+            hall: noted_hall(first, WAITING),
         }
     }
 }
@@ -75,8 +91,8 @@ impl Call for Booked {
     fn agree(&mut self) -> String {
         let after = self.library();
         assert_eq!((self.rust(), after.refusal), (0, 0));
-        assert_eq!(after.hall.log.noted().len() as u64, NOTED + 1);
-        assert_eq!(after.hall.waiting.len as u64, WAITING + 1);
+        assert_eq!(after.hall.noted as u64, NOTED + 1);
+        assert_eq!(after.hall.waiting as u64, WAITING + 1);
         "accepted".into()
     }
 }

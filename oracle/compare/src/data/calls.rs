@@ -68,6 +68,14 @@ impl Answer {
 }
 
 impl Call {
+    /// A round has none.
+    pub fn key(&self) -> Option<u64> {
+        match self {
+            Call::Book { key, .. } | Call::Withdraw { key, .. } => Some(*key),
+            Call::Round(_) => None,
+        }
+    }
+
     /// What it is, in the words of the report.
     pub fn name(&self) -> &'static str {
         match self {

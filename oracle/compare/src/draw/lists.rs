@@ -13,7 +13,7 @@ use crate::model::{
 };
 use crate::rng::Rng;
 use std::array::from_fn;
-use yilgashe_sys::{Hall, KeyLog, KeyRecord, Queue, QueueEntry, TeamComposition};
+use yilgashe_sys::{Booking, Hall, Note, Queue, QueueEntry, TeamComposition};
 
 /// How a list goes.
 #[derive(Clone, Copy, Debug)]
@@ -319,7 +319,8 @@ fn full(rng: &mut Rng, queue: &Queue, sizes: &mut TeamComposition) -> Search {
     }
 }
 
-/// A hall and a call. No list need lead to the hall: guests may wait twice or have joined late, and it may be over its limits.
+/// A hall and a call. No list need lead to the hall: guests may wait twice or have joined late, it may be over its limits, and what is
+/// noted beside the call's key may be none of any call.
 pub fn single(rng: &mut Rng) -> (Hall, Call) {
     let mut waiting = queue(rng, Scale::Full);
     if waiting.len <= QUEUE_LIMIT && rng.one_in(2) {
@@ -327,32 +328,32 @@ pub fn single(rng: &mut Rng) -> (Hall, Call) {
     }
     let len = waiting.waiting().len();
     tie(rng, &mut waiting.entries[..len]);
-    let hall = Hall {
-        log: log(rng, &waiting),
-        waiting,
-    };
+    let mut hall = noting(rng, &waiting);
     let call = match rng.below(5) {
         0 => Call::Book {
-            key: key(rng, &hall.log),
-            entry: entry(rng, &hall.waiting),
+            key: key(rng, &hall),
+            entry: entry(rng, &waiting),
         },
         1 => Call::Withdraw {
-            key: key(rng, &hall.log),
-            player: player(rng, &hall.waiting),
+            key: key(rng, &hall),
+            player: player(rng, &waiting),
         },
-        _ => Call::Round(Box::new(round(rng, &hall.waiting, [2, 1, 1]))),
+        _ => Call::Round(Box::new(round(rng, &waiting, [2, 1, 1]))),
     };
     let call = if rng.one_in(3) {
-        again(rng, &hall.log, call)
+        again(rng, &hall, call)
     } else {
         call
     };
+    if rng.one_in(3) {
+        misnote(rng, &mut hall, &call);
+    }
     (hall, call)
 }
 
-/// All 1,024 places are filled, each with its own key and an answer that its kind can get.
-fn log(rng: &mut Rng, queue: &Queue) -> KeyLog {
-    let len = match rng.below(12) {
+/// The queue's guests wait. All 1,024 places for keys are filled, each with its own key and an answer that its kind can get.
+fn noting(rng: &mut Rng, queue: &Queue) -> Hall {
+    let noted = match rng.below(12) {
         0 => rng.pick(&[NOTE_LIMIT + 1, NOTE_LIMIT + 2, LONG[3], LONG[4], LONG[5]]),
         1 | 2 => NOTE_LIMIT - rng.below(2),
         3 => rng.below(NOTE_LIMIT),
@@ -360,42 +361,47 @@ fn log(rng: &mut Rng, queue: &Queue) -> KeyLog {
     };
     let mut keys: Vec<u64> = (0..NOTE_LIMIT as u64).collect();
     rng.shuffle(&mut keys);
-    let record = |place: usize| {
+    let note = |_| {
         let kind = rng.below(2) as u8;
         let answer = match kind {
             0 => rng.pick(&[0, 4, 9, 10]),
             _ => rng.pick(&[0, 11]),
         };
-        KeyRecord {
-            key: keys[place],
+        Note {
             player: player(rng, queue),
             kind,
             answer,
         }
     };
-    KeyLog {
-        records: from_fn(record),
-        len,
+    Hall {
+        bookings: queue.entries.map(|entry| Booking::of(&entry)),
+        waiting: queue.len,
+        notes: from_fn(note),
+        keys: from_fn(|place| keys[place]),
+        noted,
     }
 }
 
-/// Noted or not, or noted only past `len`, where nobody may look.
-fn key(rng: &mut Rng, log: &KeyLog) -> u64 {
+/// Noted or not, or noted only past the noted ones, where nobody may look.
+fn key(rng: &mut Rng, hall: &Hall) -> u64 {
     match rng.below(4) {
         0 => rng.pick(&ODD_IDS),
-        1 if log.len > 0 => rng.pick(log.noted()).key,
-        _ => rng.pick(&log.records).key,
+        1 if hall.noted > 0 => hall.keys[noted_place(rng, hall)],
+        _ => rng.pick(&hall.keys),
     }
 }
 
-/// The call with a record's key and guest, where one is noted: its resend if the kinds agree, else a clash.
-fn again(rng: &mut Rng, log: &KeyLog, other: Call) -> Call {
-    if log.len == 0 {
+fn noted_place(rng: &mut Rng, hall: &Hall) -> usize {
+    rng.below(hall.answered().len())
+}
+
+/// The call with a noted key and its guest, where there is one: its resend if the kinds agree, else a clash.
+fn again(rng: &mut Rng, hall: &Hall, other: Call) -> Call {
+    if hall.noted == 0 {
         return other;
     }
-    let KeyRecord {
-        key, player, kind, ..
-    } = rng.pick(log.noted());
+    let place = noted_place(rng, hall);
+    let (key, Note { player, kind, .. }) = (hall.keys[place], hall.notes[place]);
     match (kind, other) {
         (0, Call::Book { entry, .. }) => Call::Book {
             key,
@@ -404,6 +410,22 @@ fn again(rng: &mut Rng, log: &KeyLog, other: Call) -> Call {
         (_, Call::Withdraw { .. }) => Call::Withdraw { key, player },
         (_, other) => other,
     }
+}
+
+/// Where the call's key is noted, its note gets any kind or any answer: no call need make such a note.
+fn misnote(rng: &mut Rng, hall: &mut Hall, call: &Call) {
+    let Some(place) = call.key().and_then(|key| place(hall, key)) else {
+        return;
+    };
+    let note = &mut hall.notes[place];
+    match rng.one_in(2) {
+        true => note.kind = rng.pick(&[0, 1, 2, 3, 255]),
+        false => note.answer = rng.pick(&[0, 1, 4, 7, 8, 9, 10, 11, 12, 13, 255]),
+    }
+}
+
+fn place(hall: &Hall, key: u64) -> Option<usize> {
+    hall.answered().position(|(noted, _)| noted == key)
 }
 
 #[cfg(test)]
@@ -438,19 +460,32 @@ mod tests {
     #[test]
     fn single_halls_of_every_sort() {
         let mut rng = Rng::new(1);
-        let halls: Vec<Hall> = (0..1000).map(|_| single(&mut rng).0).collect();
+        let drawn: Vec<(Hall, Call)> = (0..1000).map(|_| single(&mut rng)).collect();
+        let halls: Vec<Hall> = drawn.iter().map(|(hall, _)| *hall).collect();
         let seen = |wanted: fn(&Hall) -> bool| halls.iter().filter(|hall| wanted(hall)).count();
-        assert!(seen(|hall| hall.waiting.len > QUEUE_LIMIT) > 20);
-        assert!(seen(|hall| hall.log.len > NOTE_LIMIT) > 20);
-        assert!(seen(|hall| hall.log.len == NOTE_LIMIT) > 20);
-        assert!(seen(|hall| model::joined_late(&hall.waiting)) > 20);
+        assert!(seen(|hall| hall.waiting > QUEUE_LIMIT) > 20);
+        assert!(seen(|hall| hall.noted > NOTE_LIMIT) > 20);
+        assert!(seen(|hall| hall.noted == NOTE_LIMIT) > 20);
+        assert!(seen(|hall| model::joined_late(&hall.queue())) > 20);
         let doubled = |hall: &Hall| {
-            let waiting = hall.waiting.waiting().iter();
-            let ids: Vec<u64> = waiting.map(|entry| entry.player).collect();
+            let ids: Vec<u64> = hall.booked().iter().map(|b| b.player).collect();
             model::doubled(&ids)
         };
         assert!(seen(doubled) > 200);
-        let falls = |hall: &Hall| !model::never_falls(hall.waiting.waiting());
+        let falls = |hall: &Hall| !model::never_falls(hall.queue().waiting());
         assert!((200..700).contains(&seen(falls)));
+        let noted = |wanted: fn(&Note) -> bool| {
+            let notes = drawn.iter().filter_map(|(hall, call)| noted(hall, call));
+            notes.filter(wanted).count()
+        };
+        assert!(noted(|note| note.kind > 1) > 10);
+        assert!(noted(|note| note.kind == 0 && ![0, 4, 9, 10].contains(&note.answer)) > 5);
+        assert!(noted(|note| note.kind == 1 && ![0, 11].contains(&note.answer)) > 5);
+    }
+
+    /// What is noted beside the call's key.
+    fn noted(hall: &Hall, call: &Call) -> Option<Note> {
+        let place = call.key().and_then(|key| place(hall, key))?;
+        Some(hall.notes[place])
     }
 }

@@ -20,7 +20,8 @@ pub fn beside_rust(call: &Call, answer: &Answer, before: &Hall) -> Result<Option
     let Some((round, columns)) = greedy(call).filter(|_| answer.refusal == 0) else {
         return Ok(None);
     };
-    let waiting = before.waiting.waiting();
+    let queue = before.queue();
+    let waiting = queue.waiting();
     let rust = rust_greedy(waiting, &round.sizes, columns, &round.sheets);
     let parted = rust.0 != answer.count || !rust.1.same(&answer.sheets);
     match never_falls(waiting) {

@@ -3,9 +3,7 @@
 use crate::data::{Answer, Call, Round, Search};
 use crate::model::OVER_LIMIT;
 use crate::model::hall::{self, Kind, Note, over_limit};
-use yilgashe_sys::{
-    self as library, BeamSearch, Booking, Hall, KeyLog, KeyRecord, Keyed, Queue, Rounded,
-};
+use yilgashe_sys::{self as library, BeamSearch, Booking, Hall, Keyed, Rounded};
 
 pub trait Counter {
     /// Nobody waits, and no key is noted.
@@ -127,12 +125,12 @@ impl Counter for Modelled {
     }
 
     fn with(hall: &Hall) -> Self {
-        if over_limit(hall.waiting.len, hall.log.len) {
+        if over_limit(hall.waiting, hall.noted) {
             return Modelled::Over(Box::new(*hall));
         }
         Modelled::Within(hall::Hall {
-            waiting: hall.waiting.waiting().to_vec(),
-            notes: hall.log.noted().iter().map(note).collect(),
+            waiting: hall.booked().iter().map(Booking::entry).collect(),
+            notes: hall.answered().map(note).collect(),
         })
     }
 
@@ -147,37 +145,37 @@ impl Counter for Modelled {
     fn hall(&self) -> Hall {
         match self {
             Modelled::Within(hall) => {
-                let records: Vec<KeyRecord> = hall.notes.iter().map(record).collect();
-                Hall {
-                    waiting: Queue::of(&hall.waiting),
-                    log: KeyLog::of(&records),
-                }
+                let bookings: Vec<Booking> = hall.waiting.iter().map(Booking::of).collect();
+                let answered: Vec<(u64, library::Note)> = hall.notes.iter().map(noted).collect();
+                Hall::of(&bookings, &answered)
             }
             Modelled::Over(hall) => **hall,
         }
     }
 }
 
-fn record(note: &Note) -> KeyRecord {
-    KeyRecord {
-        key: note.key,
+fn noted(note: &Note) -> (u64, library::Note) {
+    let beside = library::Note {
         player: note.guest,
         kind: match note.kind {
             Kind::Booking => 0,
             Kind::Withdrawal => 1,
+            Kind::Neither(number) => number,
         },
         answer: note.answer,
-    }
+    };
+    (note.key, beside)
 }
 
-fn note(record: &KeyRecord) -> Note {
+fn note((key, beside): (u64, library::Note)) -> Note {
     Note {
-        key: record.key,
-        kind: match record.kind {
+        key,
+        kind: match beside.kind {
             0 => Kind::Booking,
-            _ => Kind::Withdrawal,
+            1 => Kind::Withdrawal,
+            number => Kind::Neither(number),
         },
-        guest: record.player,
-        answer: record.answer,
+        guest: beside.player,
+        answer: beside.answer,
     }
 }

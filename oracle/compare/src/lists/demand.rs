@@ -61,7 +61,7 @@ impl Ledger {
             Ok(mark)
         });
         checked.map_err(|broken| {
-            let (before, after) = (&before.waiting, &after.waiting);
+            let (before, after) = (before.queue(), after.queue());
             format!("demand 3: {broken}\n  {call:?}\n  {answer:?}\n  {before:?}\n  {after:?}")
         })
     }
@@ -120,7 +120,7 @@ impl Ledger {
         }
         let places = answer.count * (round.sizes.a + round.sizes.b);
         let seated = &answer.sheets.players[..places];
-        let waits = |guest| before.waiting.waiting().iter().any(|e| e.player == guest);
+        let waits = |guest| before.booked().iter().any(|b| b.player == guest);
         ensure(!doubled(seated), "a guest is seated twice in a round")?;
         ensure(
             seated.iter().all(|&guest| waits(guest)),
@@ -139,7 +139,8 @@ impl Ledger {
 
     /// Nobody and no note appears or vanishes otherwise.
     fn balance(&self, before: &Hall, after: &Hall) -> Result<(), &'static str> {
-        let waiting = after.waiting.waiting();
+        let queue = after.queue();
+        let waiting = queue.waiting();
         ensure(
             waiting.same(&self.waiting),
             "the queue is not that of those who wait, in the order booked",
@@ -150,10 +151,8 @@ impl Ledger {
         )?;
         let guests: Vec<u64> = waiting.iter().map(|entry| entry.player).collect();
         ensure(!doubled(&guests), "a guest waits twice")?;
-        ensure(
-            after.log.noted().starts_with(before.log.noted()),
-            "a note is dropped or changed",
-        )
+        let kept = before.answered().eq(after.answered().take(before.noted));
+        ensure(kept, "a note is dropped or changed")
     }
 }
 
@@ -173,7 +172,7 @@ fn best_of_all(
         return Ok(());
     };
     let choice = Choice {
-        queue: before.waiting,
+        queue: before.queue(),
         sizes: round.sizes,
         constraints: *constraints,
         objectives: *objectives,

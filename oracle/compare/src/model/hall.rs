@@ -19,6 +19,19 @@ pub const NOT_WAITING: u8 = 11;
 pub enum Kind {
     Booking,
     Withdrawal,
+    /// A number that stands for none, which no call notes.
+    Neither(u8),
+}
+
+impl Kind {
+    /// What a new key's call of this kind can be answered.
+    fn answers(self) -> &'static [u8] {
+        match self {
+            Kind::Booking => &[0, CLOCK, ALREADY_WAITING, HALL_FULL],
+            Kind::Withdrawal => &[0, NOT_WAITING],
+            Kind::Neither(_) => &[],
+        }
+    }
 }
 
 /// A keyed call and its answer: 0 is accepted, n is refusal n.
@@ -28,6 +41,13 @@ pub struct Note {
     pub kind: Kind,
     pub guest: u64,
     pub answer: u8,
+}
+
+impl Note {
+    /// Was it noted of such a call? Not if its answer is none that such a call can get.
+    fn is_of(&self, kind: Kind, guest: u64) -> bool {
+        (self.kind, self.guest) == (kind, guest) && kind.answers().contains(&self.answer)
+    }
 }
 
 /// The default one is empty: nobody waits, and no key is noted.
@@ -71,7 +91,7 @@ impl Hall {
             return OVER_LIMIT;
         }
         match self.notes.iter().find(|note| note.key == key) {
-            Some(note) if (note.kind, note.guest) == (kind, guest) => note.answer,
+            Some(note) if note.is_of(kind, guest) => note.answer,
             Some(_) => KEY_CLASH,
             None if self.notes.len() == NOTE_LIMIT => BOOK_FULL,
             None => {
@@ -193,6 +213,30 @@ mod tests {
         assert_eq!(hall.notes.len(), 1024);
         hall.notes.push(hall.notes[0]);
         assert_eq!(hall.withdraw(0, 5), 1);
+    }
+
+    #[test]
+    fn a_note_of_no_call_clashes() {
+        let answered = |kind, answer| {
+            let note = Note {
+                key: 7,
+                kind,
+                guest: 1,
+                answer,
+            };
+            let mut hall = Hall {
+                waiting: Vec::new(),
+                notes: vec![note],
+            };
+            (hall.book(7, entry(1)), hall.withdraw(7, 1))
+        };
+        for answer in 0..=13 {
+            let booked = [0, 4, 9, 10].contains(&answer).then_some(answer);
+            let left = [0, 11].contains(&answer).then_some(answer);
+            assert_eq!(answered(Kind::Booking, answer), (booked.unwrap_or(7), 7));
+            assert_eq!(answered(Kind::Withdrawal, answer), (7, left.unwrap_or(7)));
+            assert_eq!(answered(Kind::Neither(2), answer), (7, 7));
+        }
     }
 
     #[test]

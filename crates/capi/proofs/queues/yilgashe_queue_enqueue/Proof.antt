@@ -1,8 +1,7 @@
 -- The queue is the one that came back, and the number that of its answer.
-use mathlib.Core.Path.{sym, ap, _∙_}
+use mathlib.Core.Path.{ap, _∙_}
 use Rattle.queue.specs.Queue.{Enqueuing}
-use Rattle.base.specs.Refusals.{Outcome}
-use Rattle.capi.specs.Numbers.{refusalOf, valueOr, foundIn, foundOr}
+use Rattle.base.specs.Numbers.{refusalOf}
 use borrow.Author.Needs.{needs}
 use Rattle.capi.proofs.queues.yilgashe_queue_enqueue.Statement.{statement}
 use Rattle.capi.proofs.queues.yilgashe_queue_enqueue.Tie as tie

@@ -1,7 +1,8 @@
 -- Each answer of `remove`, in numbers.
 use mathlib.Core.Path.{sym, ap, _∙_}
 use Rattle.queue.specs.Queue.{Removing, takenOf}
-use Rattle.capi.specs.Numbers.{refusalOf, valueOr, foundIn, foundOr}
+use Rattle.base.specs.Numbers.{refusalOf}
+use Rattle.capi.specs.Numbers.{foundIn, foundOr}
 use Rattle.capi.specs.Queues.{blankEntry}
 use borrow.Author.Needs.{needs}
 use Rattle.capi.proofs.queues.yilgashe_queue_remove.Statement.{statement}

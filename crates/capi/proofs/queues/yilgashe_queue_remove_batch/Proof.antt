@@ -1,7 +1,7 @@
 -- The queues are those that came back, and the number that of the answer.
-use mathlib.Core.Path.{sym, ap, _∙_}
+use mathlib.Core.Path.{ap, _∙_}
 use Rattle.queue.specs.Queue.{Parting}
-use Rattle.capi.specs.Numbers.{refusalOf, valueOr, foundIn, foundOr}
+use Rattle.base.specs.Numbers.{refusalOf}
 use borrow.Author.Needs.{needs}
 use Rattle.capi.proofs.queues.yilgashe_queue_remove_batch.Statement.{statement}
 use Rattle.capi.proofs.queues.yilgashe_queue_remove_batch.Tie as tie

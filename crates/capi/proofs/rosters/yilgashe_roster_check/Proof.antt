@@ -1,6 +1,6 @@
 -- The number of the check's answer.
-use mathlib.Core.Path.{sym, ap, _∙_}
-use Rattle.capi.specs.Numbers.{refusalOf, valueOr, foundIn, foundOr}
+use mathlib.Core.Path.{ap, _∙_}
+use Rattle.base.specs.Numbers.{refusalOf}
 use borrow.Author.Needs.{needs}
 use Rattle.capi.proofs.rosters.yilgashe_roster_check.Statement.{statement}
 use Rattle.capi.proofs.rosters.yilgashe_roster_check.Tie as tie

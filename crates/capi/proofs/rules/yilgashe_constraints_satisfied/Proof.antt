@@ -1,5 +1,5 @@
 -- The verdict on the constraints as they cross, in numbers.
-use mathlib.Core.Path.{sym, ap, _∙_}
+use mathlib.Core.Path.{ap, _∙_}
 use Rattle.roster.specs.Roster.{ofRules}
 use Rattle.matchmaker.specs.Quality.{matchOf}
 use Rattle.constraint.specs.Refusing.{constraintsRule}

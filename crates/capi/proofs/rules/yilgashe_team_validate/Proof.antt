@@ -1,5 +1,5 @@
 -- The report on the requirements as they cross, in numbers.
-use mathlib.Core.Path.{sym, ap, _∙_}
+use mathlib.Core.Path.{ap, _∙_}
 use Rattle.roster.specs.Roster.{ofRoles}
 use Rattle.matchmaker.specs.Quality.{teamOf}
 use Rattle.constraint.specs.Refusing.{validateRule}

@@ -1,5 +1,5 @@
 -- The score, in numbers.
-use mathlib.Core.Path.{sym, ap, _∙_}
+use mathlib.Core.Path.{ap, _∙_}
 use Rattle.capi.specs.Scores.{scoredNumbers}
 use borrow.Author.Needs.{needs}
 use Rattle.capi.proofs.scores.yilgashe_match_score.Statement.{statement}

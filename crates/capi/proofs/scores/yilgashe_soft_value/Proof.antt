@@ -1,5 +1,5 @@
 -- A code that is no kind, or the value in numbers.
-use mathlib.Core.Path.{sym, ap, _∙_}
+use mathlib.Core.Path.{ap, _∙_}
 use borrow.Author.Tests.{lt-ltb, le-ltb}
 use Rattle.roster.specs.Roster.{ofRatings}
 use Rattle.matchmaker.specs.Quality.{matchOf}

@@ -1,13 +1,9 @@
 -- No place where it is refused, else the places that are held.
-use mathlib.Core.Path.{_≡_, refl, sym, ap, _∙_}
-use mathlib.Core.List.{List, []}
+use mathlib.Core.Path.{_≡_, refl, ap, _∙_}
 use Prim.Native.Nat.{ℕ}
 use native.Mathlib.Omega.{arith}
 use lib.ListN.{length, take, length-take}
 use Rattle.base.proofs.Arrays.{take-held}
-use Rattle.base.specs.Refusals.{checkedOf}
-use Rattle.selection.specs.Selection.{placesGiven}
-use Rattle.capi.specs.Numbers.{refusalOf, valueOr}
 use borrow.Author.Needs.{needs}
 use Rattle.capi.proofs.selections.selected_numbers.Statement.{statement}
 use Rattle.capi.proofs.selections.selected_numbers.Tie as tie

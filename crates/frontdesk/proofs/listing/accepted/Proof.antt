@@ -5,10 +5,10 @@ use Rattle.frontdesk.proofs.listing.accepted.Statement.{statement}
 use Rattle.frontdesk.proofs.listing.accepted.Tie as tie
 
 abbrev Inv-loop : tie.InvT-loop
-Inv-loop kind records n count₀ i₀ count i = Unit {0}
+Inv-loop notes n kind count₀ i₀ count i = Unit {0}
 
 abbrev μ-loop : tie.MeasureT-loop
-μ-loop kind records n count₀ i₀ count i = 1024 - i
+μ-loop notes n kind count₀ i₀ count i = 1024 - i
 
 loop-holds : tie.Need-loop-holds Inv-loop μ-loop
 loop-holds c = tt
@@ -16,11 +16,11 @@ loop-holds c = tt
 returns : tie.Need-returns Inv-loop μ-loop
 returns c = search needs
 
-mul-record : tie.Need-mul-record Inv-loop μ-loop
-mul-record c = search needs
+mul-note : tie.Need-mul-note Inv-loop μ-loop
+mul-note c = search needs
 
-array-copy-out-record : tie.Need-array-copy-out-record Inv-loop μ-loop
-array-copy-out-record c = search needs
+array-copy-out-note : tie.Need-array-copy-out-note Inv-loop μ-loop
+array-copy-out-note c = search needs
 
 is-accepted-requires : tie.Need-is-accepted-requires Inv-loop μ-loop
 is-accepted-requires c κs = search needs
@@ -57,8 +57,8 @@ accepted-spec =
     μ-loop
     loop-holds
     returns
-    mul-record
-    array-copy-out-record
+    mul-note
+    array-copy-out-note
     is-accepted-requires
     wrapping-add-u64-requires
     add-i

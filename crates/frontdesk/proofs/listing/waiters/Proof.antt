@@ -5,34 +5,22 @@ use Rattle.frontdesk.proofs.listing.waiters.Statement.{statement}
 use Rattle.frontdesk.proofs.listing.waiters.Tie as tie
 
 abbrev Inv-loop : tie.InvT-loop
-Inv-loop clock entries n i₀ i = Unit {0}
+Inv-loop bookings n clock i₀ i = Unit {0}
 
 abbrev μ-loop : tie.MeasureT-loop
-μ-loop clock entries n i₀ i = 64 - i
-
-slice-aggregate-text : tie.Need-slice-aggregate-text Inv-loop μ-loop
-slice-aggregate-text c = search needs
-
-text-requires : tie.Need-text-requires Inv-loop μ-loop
-text-requires c κs = search needs
-
-returns : tie.Need-returns Inv-loop μ-loop
-returns c = search needs
-
-slice-aggregate-text-2 : tie.Need-slice-aggregate-text-2 Inv-loop μ-loop
-slice-aggregate-text-2 c = search needs
-
-text-requires-2 : tie.Need-text-requires-2 Inv-loop μ-loop
-text-requires-2 c κs = search needs
+μ-loop bookings n clock i₀ i = 64 - i
 
 loop-holds : tie.Need-loop-holds Inv-loop μ-loop
 loop-holds c = tt
 
-mul-entry : tie.Need-mul-entry Inv-loop μ-loop
-mul-entry c = search needs
+returns : tie.Need-returns Inv-loop μ-loop
+returns c = search needs
 
-array-copy-out-entry : tie.Need-array-copy-out-entry Inv-loop μ-loop
-array-copy-out-entry c = search needs
+mul-booking : tie.Need-mul-booking Inv-loop μ-loop
+mul-booking c = search needs
+
+array-copy-out-booking : tie.Need-array-copy-out-booking Inv-loop μ-loop
+array-copy-out-booking c = search needs
 
 add-waiter : tie.Need-add-waiter Inv-loop μ-loop
 add-waiter c = search needs
@@ -49,15 +37,6 @@ loop-less c = search needs
 loop-again : tie.Need-loop-again Inv-loop μ-loop
 loop-again c = tt
 
-add-i-2 : tie.Need-add-i-2 Inv-loop μ-loop
-add-i-2 c = search needs
-
-loop-less-2 : tie.Need-loop-less-2 Inv-loop μ-loop
-loop-less-2 c = search needs
-
-loop-again-2 : tie.Need-loop-again-2 Inv-loop μ-loop
-loop-again-2 c = tt
-
 returns-2 : tie.Need-returns-2 Inv-loop μ-loop
 returns-2 c = search needs
 
@@ -67,20 +46,13 @@ waiters-spec =
     (tie.spec
     Inv-loop
     μ-loop
-    slice-aggregate-text
-    text-requires
-    returns
-    slice-aggregate-text-2
-    text-requires-2
     loop-holds
-    mul-entry
-    array-copy-out-entry
+    returns
+    mul-booking
+    array-copy-out-booking
     add-waiter
     waiter-requires
     add-i
     loop-less
     loop-again
-    add-i-2
-    loop-less-2
-    loop-again-2
     returns-2)

@@ -33,41 +33,38 @@ slice-aggregate-bytes c = search (needs, c .before .before .before .before .befo
 bytes-requires : tie.Need-bytes-requires
 bytes-requires c κs = search needs
 
-objectives-requires : tie.Need-objectives-requires
-objectives-requires c κs = search needs
-
 array-share-prefix-ids : tie.Need-array-share-prefix-ids
 array-share-prefix-ids c = search needs
 
-slice-aggregate-full-round : tie.Need-slice-aggregate-full-round
-slice-aggregate-full-round c = search needs
+slice-aggregate-yilgashe-hall-full-round : tie.Need-slice-aggregate-yilgashe-hall-full-round
+slice-aggregate-yilgashe-hall-full-round c = search needs
 
 array-share-prefix-ratings : tie.Need-array-share-prefix-ratings
 array-share-prefix-ratings c = search needs
 
-slice-aggregate-full-round-2 : tie.Need-slice-aggregate-full-round-2
-slice-aggregate-full-round-2 c = search needs
+slice-aggregate-yilgashe-hall-full-round-2 : tie.Need-slice-aggregate-yilgashe-hall-full-round-2
+slice-aggregate-yilgashe-hall-full-round-2 c = search needs
 
 array-share-prefix-parties : tie.Need-array-share-prefix-parties
 array-share-prefix-parties c = search needs
 
-slice-aggregate-full-round-3 : tie.Need-slice-aggregate-full-round-3
-slice-aggregate-full-round-3 c = search needs
+slice-aggregate-yilgashe-hall-full-round-3 : tie.Need-slice-aggregate-yilgashe-hall-full-round-3
+slice-aggregate-yilgashe-hall-full-round-3 c = search needs
 
 array-share-prefix-roles : tie.Need-array-share-prefix-roles
 array-share-prefix-roles c = search needs
 
-slice-aggregate-full-round-4 : tie.Need-slice-aggregate-full-round-4
-slice-aggregate-full-round-4 c = search needs
+slice-aggregate-yilgashe-hall-full-round-4 : tie.Need-slice-aggregate-yilgashe-hall-full-round-4
+slice-aggregate-yilgashe-hall-full-round-4 c = search needs
 
 array-share-prefix-regions : tie.Need-array-share-prefix-regions
 array-share-prefix-regions c = search needs
 
-slice-aggregate-full-round-5 : tie.Need-slice-aggregate-full-round-5
-slice-aggregate-full-round-5 c = search needs
+slice-aggregate-yilgashe-hall-full-round-5 : tie.Need-slice-aggregate-yilgashe-hall-full-round-5
+slice-aggregate-yilgashe-hall-full-round-5 c = search needs
 
-full-round-requires : tie.Need-full-round-requires
-full-round-requires c κs = search needs
+yilgashe-hall-full-round-requires : tie.Need-yilgashe-hall-full-round-requires
+yilgashe-hall-full-round-requires c κs = search needs
 
 same-length : tie.Need-same-length
 same-length c = search needs
@@ -92,18 +89,17 @@ full-over-spec =
     halves-requires
     slice-aggregate-bytes
     bytes-requires
-    objectives-requires
     array-share-prefix-ids
-    slice-aggregate-full-round
+    slice-aggregate-yilgashe-hall-full-round
     array-share-prefix-ratings
-    slice-aggregate-full-round-2
+    slice-aggregate-yilgashe-hall-full-round-2
     array-share-prefix-parties
-    slice-aggregate-full-round-3
+    slice-aggregate-yilgashe-hall-full-round-3
     array-share-prefix-roles
-    slice-aggregate-full-round-4
+    slice-aggregate-yilgashe-hall-full-round-4
     array-share-prefix-regions
-    slice-aggregate-full-round-5
-    full-round-requires
+    slice-aggregate-yilgashe-hall-full-round-5
+    yilgashe-hall-full-round-requires
     same-length
     same-length-2
     returns)

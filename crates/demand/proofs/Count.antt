@@ -1,0 +1,85 @@
+-- Accepted = waiting + withdrawn + seated.
+use Prim.Native.Nat.{ℕ, _+_}
+use mathlib.Core.Path.{_≡_, refl, _∙_}
+use mathlib.Core.Bool.{true, false, _&&_}
+use mathlib.Core.List.{List, [], _∷_, map}
+use native.Mathlib.Omega.{arith}
+use lib.ListN.{length, length-append}
+use Rattle.base.specs.Lists.{Within}
+use Rattle.base.proofs.Members.{length-remove, length-stay}
+use Rattle.matchmaker.specs.Quality.{MatchState}
+use Rattle.seating.specs.Seating.{seats}
+use Rattle.search.proofs.Drawn.{Drawn}
+use Rattle.hall.specs.Hall.{HallState, entryOf, book, withdraw, deal, signed, Judgement, known, clash, full, fresh, judge, Turn, turn}
+use Rattle.hall.specs.Rounds.{sizesOf, findings, matchesFrom}
+use Rattle.demand.specs.Calls.{Call, keyed, round, no-kind, answered, Step, step, after, answers, mark, isOriginal, isBooking, isWithdrawal, matchesOf, taken, one, acceptedIn, withdrawnIn, seatedIn}
+use Rattle.hall.specs.declared.Booking.{Booking}
+use Rattle.demand.proofs.Deals.{book-elim, withdraw-elim}
+use Rattle.demand.proofs.Keys.{signatures, toMark, mark-judge}
+use Rattle.hall.proofs.Found.{players}
+use Rattle.demand.proofs.Orderly.{waits, Sane, served, step-served, sane-step, drawn, told, left}
+use Rattle.demand.proofs.Thin.{grow-step}
+
+-- ---- one call
+
+-- who waits then, with those who withdrew and those seated by the call, are who waited before, with the one accepted
+Balanced : HallState → Call → Step → Type 0
+Balanced h c t =
+    length (t .hall .waiting .bookings)
+    + (one (isOriginal (mark (signatures (h .log .records)) c) && (isWithdrawal c && taken (t .answer))) + length (seats (matchesOf c (t .answer))))
+    ≡ length (h .waiting .bookings) + one (isOriginal (mark (signatures (h .log .records)) c) && (isBooking c && taken (t .answer)))
+
+-- a booking that is not refused adds one
+balance-book : (ws : List Booking) (b : Booking) → length (deal (book b) ws .waiting) + (0 + 0) ≡ length ws + one (taken (answered (deal (book b) ws .answer)))
+balance-book ws b =
+    book-elim (λ r. length (r .waiting) + (0 + 0) ≡ length ws + one (taken (answered (r .answer)))) b ws (λ n. refl)
+    (λ m l. rw length-append (omega arith))
+
+-- a withdrawal that is not refused takes one
+balance-withdraw : (ws : List Booking) (p : ℕ) → length (deal (withdraw p) ws .waiting) + (one (taken (answered (deal (withdraw p) ws .answer))) + 0) ≡ length ws + 0
+balance-withdraw ws p =
+    withdraw-elim (λ r. length (r .waiting) + (one (taken (answered (r .answer))) + 0) ≡ length ws + 0) p ws (λ n. refl)
+    (λ m. omega (arith, length-remove (λ (b : Booking). b .player) p ws (waits p ws ∙ m)))
+
+-- every call is balanced
+balance-served : (h : HallState) (c : Call) → Sane h → Balanced h c (served h c)
+unfolding Balanced seats
+balance-served h (keyed k (book b)) s = rw (mark-judge (h .log .records) (signed k (book b)) (s .readable)) (go (judge (h .log .records) (signed k (book b))))
+  where
+    go : (v : Judgement) → (let t : Turn = turn h (signed k (book b)) (deal (book b) (h .waiting .bookings)) v in
+        length (t .hall .waiting .bookings) + (one (isOriginal (toMark v) && (false && taken (answered (t .answer)))) + 0)
+        ≡ length (h .waiting .bookings) + one (isOriginal (toMark v) && (true && taken (answered (t .answer)))))
+    go (known a) = refl
+    go clash = refl
+    go full = refl
+    go fresh = balance-book (h .waiting .bookings) b
+balance-served h (keyed k (withdraw p)) s = rw (mark-judge (h .log .records) (signed k (withdraw p)) (s .readable)) (go (judge (h .log .records) (signed k (withdraw p))))
+  where
+    go : (v : Judgement) → (let t : Turn = turn h (signed k (withdraw p)) (deal (withdraw p) (h .waiting .bookings)) v in
+        length (t .hall .waiting .bookings) + (one (isOriginal (toMark v) && (true && taken (answered (t .answer)))) + 0)
+        ≡ length (h .waiting .bookings) + one (isOriginal (toMark v) && (false && taken (answered (t .answer)))))
+    go (known a) = refl
+    go clash = refl
+    go full = refl
+    go fresh = balance-withdraw (h .waiting .bookings) p
+balance-served h (no-kind x) s = refl
+balance-served h (round c) s =
+    let ms : List MatchState = matchesFrom (findings c (h .waiting .bookings)) in
+    let r : Drawn (sizesOf (c .round)) (map entryOf (h .waiting .bookings)) ms = drawn h c s in
+    let w : Within (seats ms) (map (λ b. b .player) (h .waiting .bookings)) = rw (players (h .waiting .bookings)) at (r .seating .waiting) in
+    rw (told h c s, left h c)
+    (omega (arith, length-stay (λ (b : Booking). b .player) (seats ms) (h .waiting .bookings) (r .seating .different) w (s .orderly .players)))
+
+-- and so is every step
+balance-step : (h : HallState) (c : Call) → Sane h → Balanced h c (step h c)
+balance-step h c s = rw (step-served h c s) (balance-served h c s)
+
+-- ---- any list of calls
+
+-- and so are they all together
+pub conserve : (h : HallState) (cs : List Call) → Sane h →
+    length (after h cs .waiting .bookings) + (withdrawnIn (signatures (h .log .records)) cs (answers h cs) + seatedIn cs (answers h cs))
+    ≡ length (h .waiting .bookings) + acceptedIn (signatures (h .log .records)) cs (answers h cs)
+unfolding Balanced
+conserve h [] s = refl
+conserve h (c ∷ cs) s = rw (grow-step h c s) (omega (arith, conserve (step h c .hall) cs (sane-step h c s), balance-step h c s))

@@ -1,0 +1,11 @@
+pub mod Deals
+pub mod Sameness
+pub mod Keys
+pub mod Orderly
+pub mod Thin
+pub mod Resend
+pub mod Origin
+pub mod First
+pub mod Count
+pub mod Demand
+pub mod Runs

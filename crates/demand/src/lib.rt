@@ -1,0 +1,1 @@
+// No code: what is promised of lists of calls, and its proof.

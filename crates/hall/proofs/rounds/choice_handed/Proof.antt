@@ -1,0 +1,75 @@
+-- A refusal, no match, or the match at the front of the sheets.
+use borrow.Author.Needs.{needs}
+use mathlib.Core.Path.{refl, ap}
+use Rattle.base.specs.Refusals.{Outcome}
+use Rattle.matchmaker.specs.Quality.{matchOf}
+use Rattle.seating.specs.Seating.{Sheets}
+use Rattle.choice.specs.Full.{Selection, choiceBy}
+use Rattle.choice.specs.declared.Verdict.{Verdict}
+use Rattle.hall.proofs.ChoiceRounds.{choice-refused, choice-none, choice-given}
+use Rattle.hall.proofs.rounds.choice_handed.Statement.{statement}
+use Rattle.hall.proofs.rounds.choice_handed.Tie as tie
+
+enum-known-verdict : tie.Need-enum-known-verdict
+enum-known-verdict c = search needs
+
+refuses-requires : tie.Need-refuses-requires
+refuses-requires c κs = search needs
+
+enum-told : tie.Need-enum-told
+enum-told c = search needs
+
+enum-told-2 : tie.Need-enum-told-2
+enum-told-2 c = search needs
+
+write-match-requires : tie.Need-write-match-requires
+write-match-requires c κs = search needs
+
+slice-write-qualities : tie.Need-slice-write-qualities
+slice-write-qualities c = search needs
+
+returns : tie.Need-returns
+returns c =
+    let a = c .before .before .before .before .before .before .before .args in
+    let sheets : Sheets = record { players = a .players .now; qualities = a .qualities .now } in
+    let m = matchOf (a .choice .teams) in
+    let by : Verdict → Outcome Selection = λ v. choiceBy v m (a .choice .tried) in
+    choice-refused sheets (c .before .before .verdict .given .0 .0) (ap by (c .before .before .verdict .given .1)) (c .refuses .ensures)
+
+returns-2 : tie.Need-returns-2
+returns-2 c =
+    let a = c .before .before .before .before .before .args in
+    let sheets : Sheets = record { players = a .players .now; qualities = a .qualities .now } in
+    let m = matchOf (a .choice .teams) in
+    let by : Verdict → Outcome Selection = λ v. choiceBy v m (a .choice .tried) in
+    choice-none sheets (ap by (c .enum-told .given .1))
+
+same-length : tie.Need-same-length
+same-length c = search needs
+
+same-length-2 : tie.Need-same-length-2
+same-length-2 c = search needs
+
+returns-3 : tie.Need-returns-3
+returns-3 c =
+    let a = c .before .before .before .before .before .before .before .before .before .args in
+    let sheets : Sheets = record { players = a .players .now; qualities = a .qualities .now } in
+    let m = matchOf (a .choice .teams) in
+    let by : Verdict → Outcome Selection = λ v. choiceBy v m (a .choice .tried) in
+    choice-given sheets m (ap by (c .before .before .before .before .enum-told2 .given .1)) (c .before .before .before .before .before .before .before .before .before .pre .1) (c .before .before .before .before .before .before .before .before .before .pre .0 .0) (c .before .before .before .before .before .before .before .before .before .pre .0 .1) (c .before .before .write-match .ensures) refl
+
+pub choice-handed-spec : {M : Type 1} → statement M
+choice-handed-spec =
+    tie.close
+    (tie.spec
+    enum-known-verdict
+    refuses-requires
+    enum-told
+    enum-told-2
+    write-match-requires
+    slice-write-qualities
+    returns
+    returns-2
+    same-length
+    same-length-2
+    returns-3)

@@ -1,0 +1,138 @@
+/*
+ * The hall's keyed calls in plain C by document 01's rules, and a round that seats nobody: what the library's calls are timed beside.
+ * Each takes the hall by value and hands it back by value: the caller copies it in, the call copies it out, and nothing else does.
+ */
+#include "yilgashe.h"
+
+#include <string.h>
+
+static bool is_over(const yilgashe_hall *hall)
+{
+    return hall->waiting > YILGASHE_MAX_WAITING || hall->noted > YILGASHE_MAX_KEYS;
+}
+
+/* The place of a noted key, or how many are noted. */
+static size_t place_of(const yilgashe_hall *hall, uint64_t key)
+{
+    size_t i = 0;
+    while (i < hall->noted && hall->keys[i] != key) {
+        i++;
+    }
+    return i;
+}
+
+/* The place of the guest's first booking, or how many wait. */
+static size_t booking_of(const yilgashe_hall *hall, uint64_t player)
+{
+    size_t i = 0;
+    while (i < hall->waiting && hall->bookings[i].player != player) {
+        i++;
+    }
+    return i;
+}
+
+static bool can_get(uint8_t kind, uint8_t answer)
+{
+    if (kind == YILGASHE_WITHDRAWAL) {
+        return answer == YILGASHE_ACCEPTED || answer == YILGASHE_NOT_WAITING;
+    }
+    return answer == YILGASHE_ACCEPTED || answer == YILGASHE_CLOCK || answer == YILGASHE_ALREADY_WAITING ||
+           answer == YILGASHE_HALL_FULL;
+}
+
+/* What a note says to a call with its key. */
+static uint8_t heard(yilgashe_note note, uint8_t kind, uint64_t player)
+{
+    return note.kind == kind && note.player == player && can_get(kind, note.answer) ? note.answer : (uint8_t)YILGASHE_KEY_CLASH;
+}
+
+static void take_note(yilgashe_hall *hall, uint64_t key, uint64_t player, uint8_t kind, uint8_t answer)
+{
+    const yilgashe_note note = {player, kind, answer};
+    hall->keys[hall->noted] = key;
+    hall->notes[hall->noted] = note;
+    hall->noted++;
+}
+
+static uint8_t booking_answer(const yilgashe_hall *hall, const yilgashe_booking *booking)
+{
+    if (booking->joined > YILGASHE_MAX_TIME) {
+        return YILGASHE_CLOCK;
+    }
+    if (booking_of(hall, booking->player) < hall->waiting) {
+        return YILGASHE_ALREADY_WAITING;
+    }
+    return hall->waiting < YILGASHE_MAX_WAITING ? YILGASHE_ACCEPTED : YILGASHE_HALL_FULL;
+}
+
+static uint8_t book_in(yilgashe_hall *hall, uint64_t key, const yilgashe_booking *booking)
+{
+    size_t at;
+    uint8_t answer;
+    if (is_over(hall)) {
+        return YILGASHE_OVER_LIMIT;
+    }
+    at = place_of(hall, key);
+    if (at < hall->noted) {
+        return heard(hall->notes[at], YILGASHE_BOOKING, booking->player);
+    }
+    if (hall->noted == YILGASHE_MAX_KEYS) {
+        return YILGASHE_BOOK_FULL;
+    }
+    answer = booking_answer(hall, booking);
+    take_note(hall, key, booking->player, YILGASHE_BOOKING, answer);
+    if (answer == YILGASHE_ACCEPTED) {
+        hall->bookings[hall->waiting++] = *booking;
+    }
+    return answer;
+}
+
+/* Those behind move up by one. */
+static void remove_at(yilgashe_hall *hall, size_t at)
+{
+    memmove(&hall->bookings[at], &hall->bookings[at + 1], (hall->waiting - at - 1) * sizeof hall->bookings[0]);
+    hall->waiting--;
+}
+
+static uint8_t withdraw_in(yilgashe_hall *hall, uint64_t key, uint64_t player)
+{
+    size_t at;
+    uint8_t answer;
+    if (is_over(hall)) {
+        return YILGASHE_OVER_LIMIT;
+    }
+    at = place_of(hall, key);
+    if (at < hall->noted) {
+        return heard(hall->notes[at], YILGASHE_WITHDRAWAL, player);
+    }
+    if (hall->noted == YILGASHE_MAX_KEYS) {
+        return YILGASHE_BOOK_FULL;
+    }
+    at = booking_of(hall, player);
+    answer = at < hall->waiting ? YILGASHE_ACCEPTED : YILGASHE_NOT_WAITING;
+    take_note(hall, key, player, YILGASHE_WITHDRAWAL, answer);
+    if (answer == YILGASHE_ACCEPTED) {
+        remove_at(hall, at);
+    }
+    return answer;
+}
+
+/* The answers are built where the caller wants them: a local one is copied once more by some compilers. */
+
+yilgashe_keyed plain_book(yilgashe_hall hall, uint64_t key, yilgashe_booking booking)
+{
+    const uint8_t answer = book_in(&hall, key, &booking);
+    return (yilgashe_keyed){hall, answer};
+}
+
+yilgashe_keyed plain_withdraw(yilgashe_hall hall, uint64_t key, uint64_t player)
+{
+    const uint8_t answer = withdraw_in(&hall, key, player);
+    return (yilgashe_keyed){hall, answer};
+}
+
+yilgashe_rounded plain_round(yilgashe_hall hall)
+{
+    const uint8_t answer = is_over(&hall) ? YILGASHE_OVER_LIMIT : YILGASHE_ACCEPTED;
+    return (yilgashe_rounded){hall, 0, 0, answer};
+}
