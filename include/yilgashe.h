@@ -2,15 +2,16 @@
  * yilgashe.h: the matchmaking hall, for C99 and C++ programs that link libcapi.a.
  *
  * Guests book at the counter or by phone and wait with a rating, friends and a role; searches and rounds form two teams for each
- * table. Every function here is proved to meet its definition for every input, also for input that it refuses.
+ * table. Every function here is proved to meet its definition for every input, also for input that it refuses. What an array holds past
+ * the length that stands with it is in no definition, and free.
  *
  *     cc -I include program.c target/staticlib/libcapi.a
  *
- * The archive is for x86-64 Linux and needs nothing of the C library but memcpy, memmove and memset.
+ * The archive is for x86-64 Linux and needs nothing of the C library but memcpy and memset.
  *
  * STATE. The library keeps none. A queue or a hall is a struct that the caller owns: it goes in by value, and the answer carries
  * the new one. Nothing is allocated and nothing is to be freed, and any number of threads may call at once. A refused call hands
- * the queue or the hall back as it came, save for what a hall notes with a key.
+ * the queue or the hall back with the lengths that it stated and what these hold, save for what a hall notes with a key.
  *
  * SLICES. A list crosses as a pointer and the number of its elements, in this order: `const uint64_t *ids, size_t ids_len`. The
  * proofs take for granted, and the caller sees to it, that
@@ -22,6 +23,9 @@
  * STRUCTS. Zero a struct before you fill it (`yilgashe_constraints rules = {0};`, in C++ `= {};`): all of it is copied across, and a
  * bool must hold 0 or 1 even where nothing reads it. Elements past a struct's `len` or `count`, and past a hall's `waiting` and
  * `noted`, mean nothing. Such a number over the array's size is no error of the caller's: the call answers YILGASHE_OVER_LIMIT.
+ *
+ * FLOATS. The proofs are about IEEE 754 binary64. The caller leaves the floating-point environment as it is by default: rounding to
+ * nearest, flush-to-zero and denormals-are-zero off. With denormals taken for zero, yilgashe_latency_satisfied of 5e-324 turns.
  *
  * STACK. A hall is 27,152 bytes, and calls pass it by value. Leave a call 512 KB of stack.
  */
@@ -350,7 +354,8 @@ enum yilgashe_fault {
     YILGASHE_TOO_MANY = 3 /* likewise */
 };
 
-/* The first fault of a team: size, then for each requirement the minimum, then the maximum. */
+/* The first fault of a team: size, then for each requirement the minimum, then the maximum. On a refusal the fault is YILGASHE_VALID and
+ * the place 0. */
 typedef struct yilgashe_validity {
     size_t place;
     uint8_t fault;
@@ -477,7 +482,7 @@ yilgashe_formed yilgashe_generate_nearest(yilgashe_greedy_nearest_generator gene
 yilgashe_formed yilgashe_generate_exhaustive(yilgashe_queue queue, yilgashe_team_composition sizes, uint64_t *players,
                                              size_t players_len, double *qualities, size_t qualities_len);
 
-/* The teams mean something only where a match was found. Nothing is tried where it is refused. */
+/* The teams seat nobody where no match was found, and nothing is tried where it is refused. */
 typedef struct yilgashe_chosen {
     yilgashe_proposed_match teams;
     uint64_t tried;
@@ -504,7 +509,8 @@ typedef struct yilgashe_booking {
     uint32_t role;
 } yilgashe_booking;
 
-/* What is noted beside a key: whom the call was for, its kind, and the refusal that it got. */
+/* What is noted beside a key: whom the call was for, its kind (0 a booking, 1 a withdrawal), and the refusal that it got. A note with another
+ * kind, or with an answer that its kind cannot get, comes from no call: whoever calls with its key gets YILGASHE_KEY_CLASH. */
 typedef struct yilgashe_note {
     uint64_t player;
     uint8_t kind;

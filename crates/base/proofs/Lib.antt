@@ -3,6 +3,7 @@ pub mod Checks
 pub mod Numbers
 pub mod Arrays
 pub mod Loops
+pub mod All
 pub mod Members
 pub mod Lookup
 pub mod Sheets

@@ -16,7 +16,7 @@ use Rattle.base.specs.Lists.{any}
 use Rattle.base.proofs.Arrays.{take-map}
 use Rattle.base.proofs.Checks.{by-first, by-second}
 use Rattle.queue.specs.declared.QueueEntry.{QueueEntry}
-use Rattle.queue.specs.Queue.{QueueState, isLate}
+use Rattle.queue.specs.Queue.{QueueState, joinedOver}
 use Rattle.matchmaker.specs.Quality.{MatchState}
 use Rattle.seating.specs.declared.TeamComposition.{TeamComposition}
 use Rattle.seating.specs.Seating.{Sheets, HandedOut, sizesOver, seatsOf, lineup, seats, handedOut}
@@ -36,10 +36,10 @@ module _ (s : TeamComposition) (q : QueueState) (sheets : Sheets) where
 
   module _ (in-limits : (ltb 64 (q .size) || sizesOver s) ≡ false) where
     -- a late time
-    pub refuses-4 : any isLate (q .entries) ≡ true → record { answer = refused 4; sheets = sheets } ≡ exhaustiveRule s q sheets
+    pub refuses-4 : any joinedOver (q .entries) ≡ true → record { answer = refused 4; sheets = sheets } ≡ exhaustiveRule s q sheets
     refuses-4 e = rw (in-limits, e)
 
-    module _ (in-time : any isLate (q .entries) ≡ false) where
+    module _ (in-time : any joinedOver (q .entries) ≡ false) where
       -- too wide
       pub refuses-6 : tooWide (q .entries) ≡ true → record { answer = refused 6; sheets = sheets } ≡ exhaustiveRule s q sheets
       refuses-6 e = rw (in-limits, in-time, e)

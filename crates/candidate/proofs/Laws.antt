@@ -18,35 +18,35 @@ use Rattle.base.specs.declared.Checked.{Checked}
 use Rattle.base.specs.declared.Checked.the-variants.{Passed, Refused}
 use Rattle.base.specs.declared.Refusal.{Refusal}
 use Rattle.base.specs.Floats as Floats
-use Rattle.base.specs.Lists.{any, All}
+use Rattle.base.specs.Lists.{any, All, placesFrom}
 use Rattle.base.specs.Refusals.{Outcome, refused, gives, guarded, refusalNumber, checkedOf}
 use Rattle.base.specs.Ranking.{unrankable, lower, sortBy}
 use Rattle.base.specs.Sheets.{laid}
 use Rattle.base.proofs.Arrays.{take-map}
 use Rattle.base.proofs.Cases.{cases, never}
-use Rattle.base.proofs.Members.{all-take}
+use Rattle.base.proofs.All.{all-take, place-below}
 use Rattle.base.proofs.Sheets.{copy-on}
 use Rattle.base.proofs.Sorting.{sort-map}
 use Rattle.queue.specs.declared.QueueEntry.{QueueEntry}
-use Rattle.queue.specs.Queue.{QueueState, isLate, noEntry}
-use Rattle.roster.specs.Roster.{Roster, ofRatings, ratingsCheck, rowOf, foundRows, valueAt}
+use Rattle.queue.specs.Queue.{QueueState, joinedOver}
+use Rattle.queue.specs.Columns.{noEntry}
+use Rattle.roster.specs.Roster.{Roster, ofRatings, ratingsCheck, rowOf}
+use Rattle.roster.specs.Rows.{foundRows, valueAt}
 use Rattle.roster.proofs.Laws.{passed-even, even-first, value-observed}
 use Rattle.matchmaker.specs.Quality.{MatchState, seated}
 use Rattle.ranking.specs.declared.Ranked.{Ranked}
 use Rattle.ranking.specs.declared.Ascent.{Ascent}
-use Rattle.ranking.specs.Order.{scoreOf, numbered, ascentOf, risingRule}
-use Rattle.ranking.proofs.Counting.{place-below}
+use Rattle.ranking.specs.Order.{rankedScore, numbered, ascentOf, risingRule}
 use Rattle.ranking.proofs.Turning.{length-rising-places, rising-places-below, not-risen}
-use Rattle.ranking.specs.Times.{placesFrom}
 use Rattle.ranking.proofs.Places.{places, rankedAt, listed-places, sorted-places}
 use Rattle.seating.specs.declared.TeamComposition.{TeamComposition}
 use Rattle.seating.specs.Seating.{Sheets, sizesOver, areShort, seatsOf, seats}
 use Rattle.seating.specs.Steps.{overlaid}
 use Rattle.seating.proofs.Handing.{handed-refused, handed-on, handed-out}
 use Rattle.seating.proofs.Laws.{overlaid-cut, lent-second, length-seats}
-use Rattle.search.specs.Greedy.{greedyCheck}
-use Rattle.candidate.specs.Nearest.{thousand, ratingFor, rising, chunks, nearestMatches, cannotRank, nearestRule}
-use Rattle.candidate.specs.Steps.{ratingBy, howMany}
+use Rattle.greedy.specs.Greedy.{greedyCheck}
+use Rattle.candidate.specs.Nearest.{thousand, ratingFor, rising, chunks, nearestMatches, cannotRank, nearestRule, ratingBy}
+use Rattle.candidate.specs.Steps.{howMany}
 use Rattle.candidate.proofs.Chunks.{consecutive, exact, length-rising, matches-fit, seats-fit}
 
 -- ---- what is read
@@ -219,15 +219,15 @@ abbrev playerAt : List QueueEntry → ℕ → ℕ
 playerAt entries at = getD entries at noEntry .player
 
 -- the players at the places of the rising ratings are the players of the entries by rising rating
-pub players-rise : (f : QueueEntry → Float) (q : List QueueEntry) → map (λ (x : Ranked). playerAt q (x .place)) (sortBy (lower scoreOf) (numbered 0 (map f q))) ≡ map (λ (e : QueueEntry). e .player) (sortBy (lower f) q)
+pub players-rise : (f : QueueEntry → Float) (q : List QueueEntry) → map (λ (x : Ranked). playerAt q (x .place)) (sortBy (lower rankedScore) (numbered 0 (map f q))) ≡ map (λ (e : QueueEntry). e .player) (sortBy (lower f) q)
 players-rise f q =
     let at : ℕ → QueueEntry = λ p. getD q p noEntry in
     let d = f noEntry in
     let by : (ℕ → Float) → List ℕ → List ℕ = λ score ps. sortBy (lower score) ps in
     let c : _≡_ {A = ℕ → Float} (λ p. getD (map f q) p d) (λ p. f (at p)) = λ i p. List·getD-map f q p noEntry i in
     let l : places (map f q) ≡ places q = ap (placesFrom 0) (length-map q f) in
-    let one : map (λ (x : Ranked). playerAt q (x .place)) (sortBy (lower scoreOf) (numbered 0 (map f q))) ≡ map (playerAt q) (by (λ p. f (at p)) (places q)) =
-    ap (map (λ (x : Ranked). playerAt q (x .place))) (sorted-places d (lower scoreOf) (map f q))
+    let one : map (λ (x : Ranked). playerAt q (x .place)) (sortBy (lower rankedScore) (numbered 0 (map f q))) ≡ map (playerAt q) (by (λ p. f (at p)) (places q)) =
+    ap (map (λ (x : Ranked). playerAt q (x .place))) (sorted-places d (lower rankedScore) (map f q))
     ∙ map-map (λ (x : Ranked). playerAt q (x .place)) (rankedAt d (map f q)) (by (λ p. getD (map f q) p d) (places (map f q)))
     ∙ ap (λ (ps : List ℕ). map (playerAt q) (by (λ p. getD (map f q) p d) ps)) l
     ∙ ap (λ (score : ℕ → Float). map (playerAt q) (by score (places q))) c in
@@ -254,22 +254,22 @@ module _ (r : Roster) (es : List QueueEntry) (n : ℕ) (o : Ascent) {ws : List �
       ap (λ (k : Checked). guarded (checkedOf k) (gives (take (o .len) (o .places)))) (sym e) ∙ h ∙ ap risingRule (same-ratings r es n w)
 
 -- the first k of an order's places hold the first k of the players by rising rating
-pub seated-row : (r : Roster) (es : List QueueEntry) (n k len : ℕ) (places : List ℕ) {ws : List ℕ} → n ≤ length es → k ≤ n → ws ≡ map (λ e. e .player) es → take len places ≡ map (λ (x : Ranked). x .place) (sortBy (lower scoreOf) (numbered 0 (map (ratingFor r) (take n es)))) → (All (λ p. p < n) (take k places)) × (map (λ p. getD ws p 0) (take k places) ≡ take k (map (λ (e : QueueEntry). e .player) (rising r (take n es))))
+pub seated-row : (r : Roster) (es : List QueueEntry) (n k len : ℕ) (places : List ℕ) {ws : List ℕ} → n ≤ length es → k ≤ n → ws ≡ map (λ e. e .player) es → take len places ≡ map (λ (x : Ranked). x .place) (sortBy (lower rankedScore) (numbered 0 (map (ratingFor r) (take n es)))) → (All (λ p. p < n) (take k places)) × (map (λ p. getD ws p 0) (take k places) ≡ take k (map (λ (e : QueueEntry). e .player) (rising r (take n es))))
 seated-row r es n k len places {ws} fits h w e =
     let q = take n es in
     let f = ratingFor r in
-    let order = map (λ (x : Ranked). x .place) (sortBy (lower scoreOf) (numbered 0 (map f q))) in
+    let order = map (λ (x : Ranked). x .place) (sortBy (lower rankedScore) (numbered 0 (map f q))) in
     let lq : length q ≡ n = length-take-le n es fits in
     let lf : length (map f q) ≡ n = length-map q f ∙ lq in
-    let lo : length order ≡ n = length-rising-places (lower scoreOf) (map f q) ∙ lf in
+    let lo : length order ≡ n = length-rising-places (lower rankedScore) (map f q) ∙ lf in
     let kl : k ≤ len = omega (arith, h, lo, ap length e, length-take len places) in
     let p : take k places ≡ take k order = sym (take-take k len places kl) ∙ ap (take k) e in
-    let b : All (λ i. i < n) order = rw lf at (rising-places-below (lower scoreOf) (map f q)) in
+    let b : All (λ i. i < n) order = rw lf at (rising-places-below (lower rankedScore) (map f q)) in
     let a : All (λ i. i < n) (take k order) = all-take (λ i. i < n) k order b in
     let g : map (λ i. getD ws i 0) order ≡ map (λ i. playerAt q i) order =
     ap (λ (v : List ℕ). map (λ i. getD v i 0) order) w ∙ same-players es n order b in
     let x : map (λ i. playerAt q i) order ≡ map (λ (e : QueueEntry). e .player) (rising r q) =
-    map-map (λ i. playerAt q i) (λ (y : Ranked). y .place) (sortBy (lower scoreOf) (numbered 0 (map f q))) ∙ players-rise f q in
+    map-map (λ i. playerAt q i) (λ (y : Ranked). y .place) (sortBy (lower rankedScore) (numbered 0 (map f q))) ∙ players-rise f q in
     (rw p a, rw p (sym (take-map (λ i. getD ws i 0) k order) ∙ ap (take k) (g ∙ x)))
   where
     same-players : (es : List QueueEntry) (n : ℕ) (ps : List ℕ) → All (λ i. i < n) ps → map (λ i. getD (map (λ (e : QueueEntry). e .player) es) i 0) ps ≡ map (λ i. getD (take n es) i noEntry .player) ps
@@ -292,7 +292,7 @@ roster-passing false (gives v) rest h = refl
 pub passed-roster : (s : TeamComposition) (r : Roster) (q : QueueState) (players qualities : ℕ) (k : Checked) → k ≡ Passed → checkedOf k ≡ greedyCheck s r q players qualities → ratingsCheck r ≡ gives tt
 passed-roster s r q players qualities k e h =
     let p : gives tt ≡ greedyCheck s r q players qualities = rw e at h in
-    roster-passing (ltb 64 (q .size) || sizesOver s) (ratingsCheck r) (cond (areShort players qualities) (refused 3) (cond (any isLate (q .entries)) (refused 4) (gives tt))) p
+    roster-passing (ltb 64 (q .size) || sizesOver s) (ratingsCheck r) (cond (areShort players qualities) (refused 3) (cond (any joinedOver (q .entries)) (refused 4) (gives tt))) p
 
 module _ (limit : ℕ) (s : TeamComposition) (r : Roster) (q : QueueState) (sheets : Sheets) (k : Checked) (h : checkedOf k ≡ greedyCheck s r q (length (sheets .players)) (length (sheets .qualities))) where
   -- what comes behind the check

@@ -19,7 +19,7 @@ use Rattle.roster.specs.Roster.{Roster}
 use Rattle.matchmaker.specs.Quality.{MatchState}
 use Rattle.seating.specs.declared.TeamComposition.{TeamComposition}
 use Rattle.seating.specs.Seating.{Sheets, seatsOf, handedOut}
-use Rattle.search.specs.Greedy.{greedyCheck}
+use Rattle.greedy.specs.Greedy.{greedyCheck}
 use Rattle.candidate.specs.Nearest.{ratingFor, rising, nearestMatches, nearestRule}
 
 -- es are the entries of the queue in a stable rising order

@@ -15,15 +15,18 @@ use Rattle.roster.specs.Roster.{Roster, ratingOf}
 use Rattle.matchmaker.specs.Quality.{MatchState}
 use Rattle.seating.specs.declared.TeamComposition.{TeamComposition}
 use Rattle.seating.specs.Seating.{Sheets, HandedOut, seatsOf, lineup, handedOut}
-use Rattle.search.specs.Greedy.{greedyCheck}
+use Rattle.greedy.specs.Greedy.{greedyCheck}
 
 -- 1000.0
 abbrev pub thousand : Float
 thousand = ofBits binary64 0x408f_4000_0000_0000
 
--- an entry's rating by the roster: "missing rating 1000.0"
+-- a player's rating by the roster: "missing rating 1000.0"
+abbrev pub ratingBy : Roster → ℕ → Float
+ratingBy r p = Option·getD (ratingOf r p) thousand
+
 abbrev pub ratingFor : Roster → QueueEntry → Float
-ratingFor r e = Option·getD (ratingOf r (e .player)) thousand
+ratingFor r e = ratingBy r (e .player)
 
 -- "stable rising order"
 abbrev pub rising : Roster → List QueueEntry → List QueueEntry

@@ -1,15 +1,7 @@
 -- How the code of the nearest generator reads and counts. No public contract cites this.
 use Prim.Native.Nat.{ℕ, zero, suc, _-_}
 use mathlib.Core.Bool.{cond}
-use mathlib.Core.Option.{Option·getD}
 use lib.Dec.{ltb}
-use lib.Ieee.{Float}
-use Rattle.roster.specs.Roster.{Roster, ratingOf}
-use Rattle.candidate.specs.Nearest.{thousand}
-
--- a player's rating by the roster, or 1000.0
-abbrev pub ratingBy : Roster → ℕ → Float
-ratingBy r p = Option·getD (ratingOf r p) thousand
 
 -- how many matches of so many seats are cut from n players, at most the given number
 unfoldable pub howMany : ℕ → ℕ → ℕ → ℕ

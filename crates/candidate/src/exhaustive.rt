@@ -129,7 +129,7 @@ impl ExhaustiveGenerator {
         if sizes.is_over() {
             return Formed::Refused(Refusal::OverLimit);
         }
-        if queue.has_late() {
+        if queue.has_joined_over() {
             return Formed::Refused(Refusal::Clock);
         }
         if 20 < n {

@@ -11,8 +11,8 @@ ghost use Rattle.roster.specs.Roster.{ofRatings, ratingsCheck, observedOf};
 ghost use Rattle.ranking.specs.Order.{ascentOf, risingRule};
 ghost use Rattle.seating.specs.Seating.{leaving};
 ghost use Rattle.seating.specs.Steps.{overlaid};
-ghost use Rattle.candidate.specs.Nearest.{thousand, nearestRule};
-ghost use Rattle.candidate.specs.Steps.{ratingBy, howMany};
+ghost use Rattle.candidate.specs.Nearest.{thousand, nearestRule, ratingBy};
+ghost use Rattle.candidate.specs.Steps.{howMany};
 use base::Checked;
 use base::Refusal;
 use queue::Players;
@@ -133,7 +133,7 @@ impl GreedyNearestGenerator {
     ) -> Formed
         ensures { λ r. ⌜ leaving r (now (players .exit)) (now (qualities .exit)) ≡ nearestRule (self .max) sizes (ofRatings (now (ids .entry)) (now (ratings .entry))) (queueOf queue) (record { players = now (players .entry); qualities = now (qualities .entry) }) ⌝ }
     {
-        if let Checked::Refused(refusal) = search::greedy::check(
+        if let Checked::Refused(refusal) = greedy::check(
             queue,
             sizes,
             ids,

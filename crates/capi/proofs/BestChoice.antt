@@ -1,40 +1,45 @@
 -- The best choice in numbers: one law for each answer.
 use Prim.Native.Nat.{ℕ}
-use mathlib.Core.Path.{_≡_, sym, ap, _∙_}
-use mathlib.Core.Bool.{Bool, true, false}
-use Rattle.base.specs.Refusals.{Outcome, refused, refusalNumber}
+use mathlib.Core.Path.{_≡_, sym, subst, refl}
+use mathlib.Core.Bool.{true, false}
+use mathlib.Core.List.{[]}
+use mathlib.Core.Option.{none}
+use Rattle.base.specs.Refusals.{Outcome, refused, gives, refusalNumber}
 use Rattle.base.specs.declared.Refusal.{Refusal}
 use Rattle.matchmaker.specs.Quality.{matchOf}
+use Rattle.seating.specs.Seating.{lineup}
 use Rattle.choice.specs.Full.{Selection, choiceBy, choiceOf}
 use Rattle.choice.specs.declared.Choice.{Choice}
 use Rattle.choice.specs.declared.Verdict.{Verdict}
 use Rattle.choice.specs.declared.Verdict.the-variants as Verdict
-use Rattle.base.specs.Numbers.{refusalOf}
-use Rattle.capi.specs.FullRounds.{ChoiceNumbers, chosenIn, triedIn, foundIn}
+use Rattle.capi.specs.FullRounds.{ChoiceNumbers}
 use Rattle.capi.specs.declared.rounds.Chosen.{Chosen}
 
--- no match, for a refusal
-pub none-chosen : (r : Chosen) (n : ℕ) → r .tried ≡ 0 → r .found ≡ false → r .refusal ≡ n → ChoiceNumbers (refused n) r
-none-chosen r n t f e = record { best = ap (λ (b : Bool). foundIn b (matchOf (r .teams))) f; tried = t; refusal = e }
+module _ (r : Chosen) (m : matchOf (r .teams) ≡ lineup [] []) (f : r .found ≡ false) where
+  -- nobody, for a refusal
+  pub none-chosen : (n : ℕ) → r .tried ≡ 0 → r .refusal ≡ n → ChoiceNumbers (refused n) r
+  none-chosen n t e = record { teams = m; tried = t; found = f; refusal = e }
+
+  -- nobody, since none passes
+  none-passed : (n : ℕ) → r .tried ≡ n → r .refusal ≡ 0 → ChoiceNumbers (gives (record { best = none; tried = n })) r
+  none-passed n t e = record { teams = m; tried = t; found = f; refusal = e }
 
 module _ (k : Choice) where
   abbrev by : Verdict → Outcome Selection
   by v = choiceBy v (matchOf (k .teams)) (k .tried)
 
+  -- what the choice comes to is what its verdict says
+  told : {v : Verdict} {r : Chosen} → k .verdict ≡ v → ChoiceNumbers (by v) r → ChoiceNumbers (choiceOf k) r
+  told {v} {r} e h = subst (λ (w : Verdict). ChoiceNumbers (by w) r) (sym e) h
+
   -- a choice that is refused
-  pub choice-refused : {x : Refusal} (r : Chosen) → k .verdict ≡ Verdict.Refused x → ChoiceNumbers (refused (refusalNumber x)) r → ChoiceNumbers (choiceOf k) r
-  choice-refused r e h =
-      record {
-        best = h .best ∙ ap (λ (v : Verdict). chosenIn (by v)) (sym e);
-        tried = h .tried ∙ ap (λ (v : Verdict). triedIn (by v)) (sym e);
-        refusal = h .refusal ∙ ap (λ (v : Verdict). refusalOf (by v)) (sym e);
-      }
+  pub choice-refused : {x : Refusal} (r : Chosen) → k .verdict ≡ Verdict.Refused x → matchOf (r .teams) ≡ lineup [] [] → r .tried ≡ 0 → r .found ≡ false → r .refusal ≡ refusalNumber x → ChoiceNumbers (choiceOf k) r
+  choice-refused {x} r e m t f n = told e (none-chosen r m f (refusalNumber x) t n)
+
+  -- none that passes
+  pub choice-nothing : (r : Chosen) → k .verdict ≡ Verdict.Nothing → matchOf (r .teams) ≡ lineup [] [] → r .tried ≡ k .tried → r .found ≡ false → r .refusal ≡ 0 → ChoiceNumbers (choiceOf k) r
+  choice-nothing r e m t f n = told e (none-passed r m f (k .tried) t n)
 
   -- a match that is chosen
   pub choice-found : k .verdict ≡ Verdict.Chosen → ChoiceNumbers (choiceOf k) (record { teams = k .teams; tried = k .tried; found = true; refusal = 0 })
-  choice-found e =
-      record {
-        best = ap (λ (v : Verdict). chosenIn (by v)) (sym e);
-        tried = ap (λ (v : Verdict). triedIn (by v)) (sym e);
-        refusal = ap (λ (v : Verdict). refusalOf (by v)) (sym e);
-      }
+  choice-found e = told e (record { teams = refl; tried = refl; found = refl; refusal = refl })

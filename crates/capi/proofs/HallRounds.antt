@@ -20,7 +20,7 @@ use Rattle.choice.specs.Full.{terms}
 use Rattle.hall.proofs.Turns.{within}
 use Rattle.hall.proofs.WaitLaws.{stand}
 use Rattle.hall.specs.Hall.{WaitState, waitsWith, awaiting, withoutGuests, HallState, hallOf, overLimits, isOver}
-use Rattle.hall.specs.Rounds.{full, RoundCall, calling, Found, matchesIn, matchesFrom, leaving, findings, qualityBy, turnFrom, roundFound, roundRule}
+use Rattle.hall.specs.Rounds.{full, RoundCall, calling, Found, matchesIn, matchesFrom, departing, findings, qualityBy, turnFrom, roundFound, roundRule}
 use Rattle.hall.specs.Steps.{FoundNumbers}
 use Rattle.hall.specs.declared.Booking.{Booking}
 use Rattle.hall.specs.declared.Hall.{Hall}
@@ -37,7 +37,7 @@ use Rattle.capi.specs.declared.scores.SoftObjectives.{SoftObjectives}
 
 module _ (h : HallState) (whole-row : h .waiting ≡ awaiting (h .waiting .bookings)) where
   -- all but the seated, and everyone where the round is refused
-  stay : (o : Outcome Found) {w : WaitState} → w ≡ awaiting (withoutGuests (seats (matchesFrom o)) (h .waiting .bookings)) → _≡_ {A = HallState} (record { waiting = w; log = h .log }) (leaving h o)
+  stay : (o : Outcome Found) {w : WaitState} → w ≡ awaiting (withoutGuests (seats (matchesFrom o)) (h .waiting .bookings)) → _≡_ {A = HallState} (record { waiting = w; log = h .log }) (departing h o)
   unfolding seats
   stay (refused n) e =
       let all = e ∙ ap awaiting (stay-nobody (λ b. b .player) (h .waiting .bookings)) ∙ sym whole-row in
@@ -77,7 +77,7 @@ module _ (hall : Hall) (c : RoundCall) where
       let found : roundFound h c ≡ findings c ws = rw under in
       let row = stated (hall .bookings) (hall .waiting) (hall .noted) long under in
       let w : waitsWith (out .waiting) (out .bookings) ≡ awaiting (withoutGuests (seats (matchesFrom (findings c ws))) ws) = stays ∙ ap (λ (ps : List ℕ). awaiting (withoutGuests ps ws)) (f .seated) in
-      let left : hallOf out ≡ leaving h (findings c ws) = (λ j. record { waiting = waitsWith (out .waiting) (out .bookings); log = same j }) ∙ stay h row (findings c ws) w in
+      let left : hallOf out ≡ departing h (findings c ws) = (λ j. record { waiting = waitsWith (out .waiting) (out .bookings); log = same j }) ∙ stay h row (findings c ws) w in
       record {
         turn = (λ j. record { hall = left j; handed = f .handed j; tried = f .tried j }) ∙ sym (ap (turnFrom h c) found);
         count = f .count ∙ counted (qualityBy (c .round)) (findings c ws) (c .sheets) ∙ sym (ap (λ (x : Outcome Found). valueOr 0 (turnFrom h c x .handed .answer)) found);

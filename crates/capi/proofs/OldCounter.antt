@@ -10,17 +10,18 @@ use lib.ListN.{length}
 use Rattle.base.specs.Lists.{any, every, distinct}
 use Rattle.base.specs.Refusals.{Outcome, refused, gives, guarded}
 use Rattle.base.proofs.Cases.{pick}
-use Rattle.queue.specs.Queue.{QueueState, isLate}
+use Rattle.queue.specs.Queue.{QueueState, joinedOver}
 use Rattle.roster.specs.Roster.{Roster, tooLong, isRegion, ratingsCheck}
 use Rattle.matchmaker.specs.Quality.{MatchState, qualityOf}
 use Rattle.objective.specs.declared.score.MatchObjective.{MatchObjective}
 use Rattle.seating.specs.declared.TeamComposition.{TeamComposition}
 use Rattle.seating.specs.Seating.{Sheets, HandedOut, sizesOver, areShort, handedOut, readOff, toldBy}
-use Rattle.search.specs.Greedy.{greedyMatches, greedyCheck, greedyRule}
-use Rattle.search.specs.Beam.{beamRule}
-use Rattle.search.specs.Seats.{Seating}
-use Rattle.search.specs.Copies.{Copied}
-use Rattle.search.proofs.OldCounter.{greedy-told, beam-told, greedy-rule-copied}
+use Rattle.greedy.specs.Greedy.{greedyMatches, greedyCheck, greedyRule}
+use Rattle.beam.specs.Beam.{beamRule}
+use Rattle.seating.specs.Seats.{Seating}
+use Rattle.greedy.specs.Copies.{Copied}
+use Rattle.greedy.proofs.OldCounter.{greedy-told, greedy-rule-copied}
+use Rattle.beam.proofs.OldCounter.{beam-told}
 use Rattle.base.specs.Numbers.{refusalOf, valueOr}
 use Rattle.capi.specs.Searches.{formedNumbers, SearchNumbers}
 use Rattle.capi.specs.declared.searches.Formed.{Formed}
@@ -62,7 +63,7 @@ greedy-numbered s r q players qualities =
     (guarded-numbered (ratingsCheck r) _
     (pick Numbered (any tooLong (length (r .ids) ∷ length (r .ratings) ∷ [])) (λ e. omega (arith, e))
     (pick Numbered (every (λ n. eqb n (length (r .ids))) (length (r .ratings) ∷ []) && (distinct (r .ids) && every isRegion [])) tt (λ e. omega (arith, e))))
-    (pick Numbered (areShort players qualities) (λ e. omega (arith, e)) (pick Numbered (any isLate (q .entries)) (λ e. omega (arith, e)) tt)))
+    (pick Numbered (areShort players qualities) (λ e. omega (arith, e)) (pick Numbered (any joinedOver (q .entries)) (λ e. omega (arith, e)) tt)))
 
 -- what is handed out where 0 crosses is a number of matches
 counted : (quality : MatchState → Float) (sheets : Sheets) (o : Outcome (List MatchState)) → Numbered o → refusalOf (handedOut quality o sheets .answer) ≡ 0 →

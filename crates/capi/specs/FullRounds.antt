@@ -1,16 +1,14 @@
 -- What the exported best choice answers.
-use Prim.Native.Nat.{ℕ}
 use mathlib.Core.Path.{_≡_}
-use mathlib.Core.Bool.{Bool, true, false, cond}
-use mathlib.Core.Option.{Option, none, some}
+use mathlib.Core.Bool.{cond}
 use lib.ListN.{take}
 use Rattle.base.specs.Lists.{any}
-use Rattle.base.specs.Refusals.{Outcome, refused, gives}
+use Rattle.base.specs.Refusals.{Outcome, refused}
 use Rattle.queue.specs.Queue.{QueueState}
 use Rattle.roster.specs.Roster.{Roster}
-use Rattle.matchmaker.specs.Quality.{MatchState, matchOf}
+use Rattle.matchmaker.specs.Quality.{matchOf}
 use Rattle.seating.specs.declared.TeamComposition.{TeamComposition}
-use Rattle.choice.specs.Full.{Selection, terms, choiceRule}
+use Rattle.choice.specs.Full.{Selection, terms, choiceRule, teamsChosen, choicesTried, isChosen}
 use Rattle.base.specs.Numbers.{refusalOf}
 use Rattle.capi.specs.Rules.{constraintsOf}
 use Rattle.capi.specs.Scores.{isNoKind, softsOf}
@@ -18,23 +16,11 @@ use Rattle.capi.specs.declared.rounds.Chosen.{Chosen}
 use Rattle.capi.specs.declared.rules.Constraints.{Constraints}
 use Rattle.capi.specs.declared.scores.SoftObjectives.{SoftObjectives}
 
--- the chosen match, none where it is refused; how many were tried, 0 where it is refused
-abbrev pub chosenIn : Outcome Selection → Option MatchState
-chosenIn (refused n) = none
-chosenIn (gives s) = s .best
-
-abbrev pub triedIn : Outcome Selection → ℕ
-triedIn (refused n) = 0
-triedIn (gives s) = s .tried
-
--- the match where one was found
-abbrev pub foundIn : Bool → MatchState → Option MatchState
-foundIn true m = some m
-foundIn false m = none
-
+-- each part of the answer as the choice has it; only the places of its teams behind their players are free
 pub record ChoiceNumbers (o : Outcome Selection) (r : Chosen) : Type 0 where
-  pub best : foundIn (r .found) (matchOf (r .teams)) ≡ chosenIn o
-  pub tried : r .tried ≡ triedIn o
+  pub teams : matchOf (r .teams) ≡ teamsChosen o
+  pub tried : r .tried ≡ choicesTried o
+  pub found : r .found ≡ isChosen o
   pub refusal : r .refusal ≡ refusalOf o
 
 -- a soft kind that is none, or the best choice

@@ -16,8 +16,8 @@ use Rattle.capi.specs.declared.scores.SoftObjectives.{SoftObjectives}
 use Rattle.capi.specs.declared.selections.Candidates.{Candidates}
 use Rattle.capi.specs.declared.selections.Selected.{Selected}
 
-abbrev pub candidatesOf : Candidates → S.Candidates
-candidatesOf c = S.candidatesOf (c .items) (c .len)
+abbrev pub candidatesIn : Candidates → S.Candidates
+candidatesIn c = S.candidatesOf (c .items) (c .len)
 
 pub record SelectNumbers (o : Outcome (List ℕ)) (r : Selected) : Type 0 where
   pub places : take (r .len) (r .places) ≡ valueOr [] o
@@ -29,13 +29,13 @@ abbrev pub byKinds : SoftObjectives → Outcome (List ℕ) → Outcome (List ℕ
 byKinds s rest = cond (any isNoKind (take (s .len) (s .kinds))) (refused 1) rest
 
 abbrev pub greedyNumbers : Roster → SoftObjectives → Candidates → Outcome (List ℕ)
-greedyNumbers r s c = byKinds s (S.greedyRule r (softsOf (s .kinds) (s .weights)) (s .len) (candidatesOf c))
+greedyNumbers r s c = byKinds s (S.greedySelectionRule r (softsOf (s .kinds) (s .weights)) (s .len) (candidatesIn c))
 
 abbrev pub thresholdNumbers : Roster → Float → SoftObjectives → Candidates → Outcome (List ℕ)
-thresholdNumbers r minimum s c = byKinds s (S.thresholdRule r minimum (softsOf (s .kinds) (s .weights)) (s .len) (candidatesOf c))
+thresholdNumbers r minimum s c = byKinds s (S.thresholdRule r minimum (softsOf (s .kinds) (s .weights)) (s .len) (candidatesIn c))
 
 abbrev pub lexicographicNumbers : Roster → SoftObjectives → Candidates → Outcome (List ℕ)
-lexicographicNumbers r s c = byKinds s (S.lexicographicRule r (softsOf (s .kinds) (s .weights)) (s .len) (candidatesOf c))
+lexicographicNumbers r s c = byKinds s (S.lexicographicRule r (softsOf (s .kinds) (s .weights)) (s .len) (candidatesIn c))
 
 abbrev pub weightedNumbers : Roster → ObjectiveWeights → Candidates → Outcome (List ℕ)
-weightedNumbers r w c = S.weightedRule r w (candidatesOf c)
+weightedNumbers r w c = S.weightedRule r w (candidatesIn c)

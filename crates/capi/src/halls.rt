@@ -8,13 +8,13 @@ ghost use Rattle.capi.specs.Searches.{sheets};
 ghost use Rattle.capi.specs.Halls.{turnIn, RoundNumbers, fullCall, fullRule};
 use crate::rules::Constraints;
 use crate::scores::SoftObjectives;
+use beam::BeamSearch;
 use hall::Booking;
 use hall::Hall;
 use hall::notes;
 use hall::rounds;
 use hall::waiting;
 use objective::score::MatchObjective;
-use search::beam::BeamSearch;
 use seating::TeamComposition;
 
 // Refusal 0: accepted.

@@ -1,8 +1,11 @@
 // The best choice of a full round, exported.
 ghost use mathlib.Core.Path.{_≡_};
 ghost use mathlib.Core.Bool.{false};
+ghost use mathlib.Core.List.{[]};
 ghost use Rattle.queue.specs.Queue.{queueOf};
 ghost use Rattle.roster.specs.Roster.{ofRules};
+ghost use Rattle.matchmaker.specs.Quality.{matchOf};
+ghost use Rattle.seating.specs.Seating.{lineup};
 ghost use Rattle.choice.specs.Full.{choiceOf};
 ghost use Rattle.capi.specs.FullRounds.{ChoiceNumbers, choiceNumbers};
 use crate::rules::Constraints;
@@ -13,7 +16,8 @@ use matchmaker::ProposedMatch;
 use queue::Queue;
 use seating::TeamComposition;
 
-// The teams mean something only where a match was found. Nothing is tried where it is refused.
+// The teams are the match where one was found, else nobody; what stands in a team's array behind its players counts for nothing.
+// Nothing is tried where it is refused.
 #[repr(C)]
 pub struct Chosen {
     pub teams: ProposedMatch,
@@ -22,13 +26,14 @@ pub struct Chosen {
     pub refusal: u8,
 }
 
-// A refusal, and no match.
-fn refused(refusal: u8) -> Chosen
-    ensures { λ r. ⌜ (r .tried ≡ 0) × ((r .found ≡ false) × (r .refusal ≡ refusal)) ⌝ }
+// No match, after so many choices, or for a refusal.
+fn unfound(tried: u64, refusal: u8) -> Chosen
+    ensures { λ r. ⌜ (matchOf (r .teams) ≡ lineup [] []) × ((r .tried ≡ tried) × ((r .found ≡ false) × (r .refusal ≡ refusal))) ⌝ }
 {
+    let none = seating::nobody();
     Chosen {
-        teams: seating::nobody(),
-        tried: 0,
+        teams: none,
+        tried: tried,
         found: false,
         refusal: refusal,
     }
@@ -41,13 +46,8 @@ fn in_numbers(choice: Choice) -> Chosen
     let tried = choice.tried;
     let verdict = choice.verdict;
     match verdict {
-        Verdict::Refused(refusal) => refused(refusal.number()),
-        Verdict::Nothing => Chosen {
-            teams: teams,
-            tried: tried,
-            found: false,
-            refusal: 0,
-        },
+        Verdict::Refused(refusal) => unfound(0, refusal.number()),
+        Verdict::Nothing => unfound(tried, 0),
         Verdict::Chosen => Chosen {
             teams: teams,
             tried: tried,
@@ -72,7 +72,7 @@ pub extern "C" fn yilgashe_best_choice(
     ensures { λ r. ⌜ ChoiceNumbers (choiceNumbers (ofRules (now (ids .entry)) (now (ratings .entry)) (now (parties .entry)) (now (roles .entry)) (now (regions .entry))) constraints objectives sizes (queueOf queue)) r ⌝ }
 {
     if objectives.has_no_kind() {
-        return refused(1);
+        return unfound(0, 1);
     }
     let all = crate::rules::constraints_of(constraints);
     let softs = objectives.objectives();

@@ -4,17 +4,17 @@ ghost use mathlib.Core.Path.{_≡_};
 ghost use Rattle.queue.specs.Queue.{queueOf};
 ghost use Rattle.roster.specs.Roster.{ofRatings, ofDeviations};
 ghost use Rattle.seating.specs.Seating.{formedOf};
-ghost use Rattle.search.specs.Beam.{beamRule};
-ghost use Rattle.search.specs.Greedy.{greedyRule};
+ghost use Rattle.beam.specs.Beam.{beamRule};
+ghost use Rattle.greedy.specs.Greedy.{greedyRule};
 ghost use Rattle.candidate.specs.Exhaustive.{exhaustiveRule};
 ghost use Rattle.candidate.specs.Nearest.{nearestRule};
 ghost use Rattle.capi.specs.Searches.{formedNumbers, sheets, SearchNumbers};
+use beam::BeamSearch;
 use candidate::exhaustive::ExhaustiveGenerator;
 use candidate::nearest::GreedyNearestGenerator;
+use greedy::GreedySearch;
 use objective::score::MatchObjective;
 use queue::Queue;
-use search::beam::BeamSearch;
-use search::greedy::GreedySearch;
 use seating::TeamComposition;
 
 // How many matches were handed out, 0 where it is refused.

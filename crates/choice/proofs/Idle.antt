@@ -2,7 +2,7 @@
 use Prim.Native.Nat.{ℕ, zero, suc, _+_, _-_, _≤_, _<_}
 use mathlib.Core.Path.{_≡_, refl, sym, ap, _∙_}
 use mathlib.Core.Bool.{Bool, true, false, not, cond}
-use mathlib.Core.List.{List, [], _∷_, _++_}
+use mathlib.Core.List.{List, [], _∷_}
 use mathlib.Core.Option.{none, some}
 use native.Mathlib.Numerals.{sub-one}
 use native.Mathlib.Omega.{arith}
@@ -21,8 +21,8 @@ use Rattle.candidate.proofs.Walking.{through-short}
 use Rattle.constraint.specs.declared.Constraints.{Constraints}
 use Rattle.objective.specs.declared.soft.SoftObjective.{SoftObjective}
 use Rattle.choice.specs.Full.{Terms, terms}
-use Rattle.choice.specs.Steps.{Part, SoFar, skipped, weighed}
-use Rattle.choice.specs.Sums.{rostered, ratedAt, Filling, idleAt, idleFrom}
+use Rattle.choice.specs.Steps.{Scored, SoFar, skipped, weighed}
+use Rattle.choice.specs.Sums.{rostered, ratedAt, Summing, idleAt, idleFrom}
 use Rattle.choice.specs.declared.Sums.{Sums}
 use Rattle.choice.proofs.Summing.{grown-read, last-score, idle-skipped}
 use Rattle.choice.proofs.Lasting.{last-next}
@@ -67,7 +67,7 @@ module _ (f : ℕ → Bool) (at left : ℕ) {v : Bool} (inv : idleFrom f at left
 
 -- ---- what idle choices leave
 
-module _ (t : Terms) (s : TeamComposition) (q : List ℕ) (m : MatchState) (f : ℕ → Bool) (found many bad : Bool) (p : Part) where
+module _ (t : Terms) (s : TeamComposition) (q : List ℕ) (m : MatchState) (f : ℕ → Bool) (found many bad : Bool) (p : Scored) where
   -- the best so far when so many were tried
   abbrev kept : ℕ → SoFar
   kept tried = record { tried = tried; best = cond found (some p) none; many = many; nan = bad }
@@ -102,8 +102,8 @@ short-by-two s m p a =
 
 -- the choices with the player at a place, whose last seats are all idle
 module _ (ids : List ℕ) (ratings : List Float) (parties roles regions : List ℕ) (c : Constraints) (objectives : List SoftObjective) (count : ℕ) (s : TeamComposition) (q : List ℕ) (a : s .a ≤ 8) (b : s .b ≤ 8) where
-  pub two-idle : (m : MatchState) (x : Sums) (first found many bad : Bool) (p : Part) (rows : List Bool) (rated : List Float) (at n tried : ℕ) {idle : Bool} → rows ≡ rostered ids ratings q → rated ≡ ratedAt ids ratings q
-      → Filling (ofRules ids ratings parties roles regions) s m x → length (seated m) + 1 ≡ seatsOf s → first ≡ ltb (length (m .a .players)) (s .a)
+  pub two-idle : (m : MatchState) (x : Sums) (first found many bad : Bool) (p : Scored) (rows : List Bool) (rated : List Float) (at n tried : ℕ) {idle : Bool} → rows ≡ rostered ids ratings q → rated ≡ ratedAt ids ratings q
+      → Summing (ofRules ids ratings parties roles regions) s m x → length (seated m) + 1 ≡ seatsOf s → first ≡ ltb (length (m .a .players)) (s .a)
       → at + n ≤ length q → idle ≡ idleFrom (idleAt (take count objectives) s rows rated x first found many (p .score)) at n → idle ≡ true
       → _≡_ {A = SoFar} (record { tried = tried + n; best = cond found (some p) none; many = many; nan = bad })
       (through s (weighed (terms (ofRules ids ratings parties roles regions) c objectives count)) m 1 (take n (drop at q)) (record { tried = tried; best = cond found (some p) none; many = many; nan = bad }))

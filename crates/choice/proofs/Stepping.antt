@@ -1,44 +1,49 @@
 -- The best so far, one choice at a time, as the code keeps it: one law for each return.
 use Prim.Native.Nat.{ℕ, _+_, _≤_}
-use mathlib.Core.Path.{_≡_, refl, sym, ap, _∙_}
+use mathlib.Core.Path.{_≡_, refl, sym, ap, subst, _∙_}
 use mathlib.Core.Bool.{Bool, true, false, cond, _&&_, _||_}
 use mathlib.Core.List.{List, [], map}
 use mathlib.Core.Option.{none, some}
 use lib.Ieee.{lt, isNan}
 use lib.ListN.{length, take, drop}
-use Rattle.base.specs.Refusals.{refused, gives}
+use Rattle.base.specs.declared.Refusal.{Refusal}
+use Rattle.base.specs.Refusals.{Outcome, refused, gives, refusalNumber}
 use Rattle.base.proofs.Arrays.{take-map}
 use Rattle.base.proofs.Cases.{never, pick}
 use Rattle.queue.specs.declared.QueueEntry.{QueueEntry}
-use Rattle.matchmaker.specs.Quality.{MatchState}
+use Rattle.matchmaker.specs.declared.ProposedMatch.{ProposedMatch}
+use Rattle.matchmaker.specs.Quality.{MatchState, matchOf}
 use Rattle.seating.specs.declared.TeamComposition.{TeamComposition}
 use Rattle.seating.specs.Seating.{seatsOf, lineup}
 use Rattle.candidate.specs.Choices.{ways}
 use Rattle.candidate.specs.Walks.{through}
 use Rattle.candidate.proofs.Walking.{row-length, through-counts}
-use Rattle.choice.specs.Full.{Terms, passes, chosen}
-use Rattle.choice.specs.Steps.{Part, SoFar, orBetter, isThere, unweighed, passed, weighed, concluding}
+use Rattle.choice.specs.declared.Choice.{Choice}
+use Rattle.choice.specs.declared.Verdict.{Verdict}
+use Rattle.choice.specs.declared.Verdict.the-variants as Verdict
+use Rattle.choice.specs.Full.{Terms, Selection, passes, chosen, choiceBy, ChoiceParts}
+use Rattle.choice.specs.Steps.{Scored, SoFar, orBetter, isThere, unweighed, passed, weighed, concluding}
 use Rattle.choice.proofs.Weighing.{best-plain}
 
 -- ---- outdo
 
 -- there is a best where one was found
-there : (found : Bool) (p : Part) → isThere (cond found (some p) none) ≡ found
+there : (found : Bool) (p : Scored) → isThere (cond found (some p) none) ≡ found
 there true p = refl
 there false p = refl
 
 -- p was found, and x scores lower: p stays
-pub stays : (found : Bool) (p x : Part) → (found && lt (x .score) (p .score)) ≡ true → orBetter (cond found (some p) none) x ≡ p
+pub stays : (found : Bool) (p x : Scored) → (found && lt (x .score) (p .score)) ≡ true → orBetter (cond found (some p) none) x ≡ p
 stays true p x e = rw e
 stays false p x e = never cc
 
 -- nothing was found, or x does not score lower: x takes the place
-pub outdone : (found : Bool) (p x : Part) → (found && lt (x .score) (p .score)) ≡ false → orBetter (cond found (some p) none) x ≡ x
+pub outdone : (found : Bool) (p x : Scored) → (found && lt (x .score) (p .score)) ≡ false → orBetter (cond found (some p) none) x ≡ x
 outdone true p x e = rw e
 outdone false p x e = refl
 
 -- one more that passed, whichever of the two is kept
-pub one-passed : (tried : ℕ) (found many nan : Bool) (p x : Part) {y : Part} {both bad is : Bool} → both ≡ (many || found) → is ≡ isNan (x .score) → bad ≡ (nan || is) → orBetter (cond found (some p) none) x ≡ y
+pub one-passed : (tried : ℕ) (found many nan : Bool) (p x : Scored) {y : Scored} {both bad is : Bool} → both ≡ (many || found) → is ≡ isNan (x .score) → bad ≡ (nan || is) → orBetter (cond found (some p) none) x ≡ y
     → record { tried = tried + 1; best = some y; many = both; nan = bad } ≡ passed (record { tried = tried; best = cond found (some p) none; many = many; nan = nan }) (x .teams) (x .score)
 one-passed tried found many nan p x m i b e = rw (e, there found p, ← m, ← i, ← b)
 
@@ -56,7 +61,7 @@ all-tried t s m k q from rest b h =
 
 -- ---- concluded
 
-module _ (tried : ℕ) (found many nan : Bool) (p : Part) {bad : Bool} (e : bad ≡ (many && nan)) where
+module _ (tried : ℕ) (found many nan : Bool) (p : Scored) {bad : Bool} (e : bad ≡ (many && nan)) where
   abbrev all : SoFar
   all = record { tried = tried; best = cond found (some p) none; many = many; nan = nan }
 
@@ -74,6 +79,30 @@ module _ (tried : ℕ) (found many nan : Bool) (p : Part) {bad : Bool} (e : bad 
   pub concludes-nothing : bad ≡ false → found ≡ false → gives (record { best = none; tried = tried }) ≡ concluding all
   unfolding concluding
   concludes-nothing b f = rw (sym e ∙ b, f)
+
+-- ---- the parts of a choice
+
+module _ (c : Choice) where
+  -- what a choice comes to by one rule it comes to by an equal one
+  pub parts-by : {o p : Outcome Selection} → o ≡ p → ChoiceParts o c → ChoiceParts p c
+  parts-by e h = subst (λ (q : Outcome Selection). ChoiceParts q c) e h
+
+  -- nobody is chosen, and nothing tried, for a refusal
+  pub parts-refused : (x : Refusal) → c .verdict ≡ Verdict.Refused x → matchOf (c .teams) ≡ lineup [] [] → c .tried ≡ 0 → ChoiceParts (refused (refusalNumber x)) c
+  parts-refused x v m t = record { outcome = ap (λ (w : Verdict). choiceBy w (matchOf (c .teams)) (c .tried)) v; teams = m; tried = t }
+
+  -- nobody is chosen, since none passes
+  pub parts-nothing : (n : ℕ) → c .verdict ≡ Verdict.Nothing → matchOf (c .teams) ≡ lineup [] [] → c .tried ≡ n → ChoiceParts (gives (record { best = none; tried = n })) c
+  parts-nothing n v m t =
+      record {
+        outcome = ap (λ (w : Verdict). choiceBy w (matchOf (c .teams)) (c .tried)) v ∙ ap (λ (k : ℕ). gives (record { best = none; tried = k })) t;
+        teams = m;
+        tried = t;
+      }
+
+-- a match is chosen
+pub parts-chosen : (m : ProposedMatch) (n : ℕ) → ChoiceParts (gives (record { best = some (matchOf m); tried = n })) (record { verdict = Verdict.Chosen; teams = m; tried = n })
+parts-chosen m n = record { outcome = refl; teams = refl; tried = refl }
 
 -- ---- best_choice
 

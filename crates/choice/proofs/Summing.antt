@@ -1,12 +1,12 @@
 -- The sums grow with a choice and give its score, and a choice that scores lower than the best of many is idle.
 use Prim.Native.Nat.{ℕ, zero, suc, _+_, _≤_, _<_}
-use mathlib.Core.Path.{_≡_, refl, sym, ap, _∙_, subst}
+use mathlib.Core.Path.{_≡_, refl, sym, ap, _∙_}
 use mathlib.Core.Bool.{Bool, true, false, cond, _&&_, _||_}
 use mathlib.Core.List.{List, [], _∷_, _++_, map, append-nil, append-assoc}
 use mathlib.Core.Option.{Option, none, some, Option·getD}
 use native.Mathlib.Nat.{le-of-suc-le-suc, not-suc-le-zero}
 use native.Mathlib.Omega.{arith}
-use borrow.Author.Tests.{lt-ltb, le-ltb, ltb-true, ltb-false}
+use borrow.Author.Tests.{lt-ltb, ltb-true, ltb-false}
 use lib.Dec.{ltb}
 use lib.Ieee.{Float, nan, inf, fin, binary64, add, lt, isNan}
 use lib.ListN.{length, getD, length-append}
@@ -23,8 +23,9 @@ use Rattle.seating.specs.Seating.{seatsOf, lineup}
 use Rattle.candidate.specs.Walks.{seatedNext}
 use Rattle.candidate.proofs.Walking.{seat-more}
 use Rattle.choice.specs.Full.{Terms, passes, scoreIn}
-use Rattle.choice.specs.Steps.{Part, SoFar, passed, skipped, weighed}
-use Rattle.choice.specs.Sums.{isSome, rostered, ratedAt, grown, noSums, sumsWith, scoreBy, sumsOf, Filling}
+use Rattle.base.specs.Lists.{isSome}
+use Rattle.choice.specs.Steps.{Scored, skipped, weighed}
+use Rattle.choice.specs.Sums.{rostered, ratedAt, plusRow, noSums, sumsWith, scoreBy, Summing}
 use Rattle.choice.specs.declared.Sums.{Sums}
 
 -- ---- what is read once
@@ -36,13 +37,13 @@ getD-made f (x ∷ xs) zero d e h = refl
 getD-made f (x ∷ xs) (suc i) d e h = getD-made f xs i d e (le-of-suc-le-suc h)
 
 -- a sum grows by what was observed
-grown-by : (o : Option Float) (sum : Float) → grown (isSome o) (Option·getD o Floats.zero) sum ≡ absorb (add binary64) sum o
+grown-by : (o : Option Float) (sum : Float) → plusRow (isSome o) (Option·getD o Floats.zero) sum ≡ absorb (add binary64) sum o
 grown-by none sum = refl
 grown-by (some x) sum = refl
 
 -- what is read of a place makes a sum grow as the roster says of its player
 pub grown-read : (ids : List ℕ) (ratings : List Float) (q : List ℕ) (i : ℕ) {rows : List Bool} {rated : List Float} → i < length q → rows ≡ rostered ids ratings q → rated ≡ ratedAt ids ratings q
-    → (sum : Float) → grown (getD rows i false) (getD rated i nan) sum ≡ absorb (add binary64) sum (observe ids ratings (getD q i 0))
+    → (sum : Float) → plusRow (getD rows i false) (getD rated i nan) sum ≡ absorb (add binary64) sum (observe ids ratings (getD q i 0))
 grown-read ids ratings q i h e f sum =
     rw (e, f, getD-made (λ p. isSome (observe ids ratings p)) q i 0 false h, getD-made (λ p. Option·getD (observe ids ratings p) Floats.zero) q i 0 nan h)
     (grown-by (observe ids ratings (getD q i 0)) sum)
@@ -53,25 +54,25 @@ grown-read ids ratings q i h e f sum =
 abbrev total : Roster → List ℕ → Float
 total r ps = sumOf (observations (ratingOf r) ps)
 
-module _ (r : Roster) (p : ℕ) (row : Bool) (rating : Float) (reads : (sum : Float) → grown row rating sum ≡ absorb (add binary64) sum (ratingOf r p)) where
+module _ (r : Roster) (p : ℕ) (row : Bool) (rating : Float) (reads : (sum : Float) → plusRow row rating sum ≡ absorb (add binary64) sum (ratingOf r p)) where
   -- the sum of a list of players grows by the player behind them
-  total-more : (ps : List ℕ) → grown row rating (total r ps) ≡ total r (ps ++ (p ∷ []))
+  total-more : (ps : List ℕ) → plusRow row rating (total r ps) ≡ total r (ps ++ (p ∷ []))
   total-more ps = reads (total r ps) ∙ sym (sum-snoc (ratingOf r) Floats.zero ps p)
 
   -- the player joins A, and nobody is in B
-  joins-a : (us vs : List ℕ) → vs ≡ [] → _≡_ {A = Sums} (record { a = grown row rating (total r us); b = total r vs; all = grown row rating (total r (us ++ vs)) }) (record { a = total r (us ++ (p ∷ [])); b = total r vs; all = total r ((us ++ (p ∷ [])) ++ vs) })
+  joins-a : (us vs : List ℕ) → vs ≡ [] → _≡_ {A = Sums} (record { a = plusRow row rating (total r us); b = total r vs; all = plusRow row rating (total r (us ++ vs)) }) (record { a = total r (us ++ (p ∷ [])); b = total r vs; all = total r ((us ++ (p ∷ [])) ++ vs) })
   joins-a us vs e =
-      let f : grown row rating (total r (us ++ vs)) ≡ total r ((us ++ (p ∷ [])) ++ vs) = rw (e, append-nil us, append-nil (us ++ (p ∷ []))) (total-more us) in
+      let f : plusRow row rating (total r (us ++ vs)) ≡ total r ((us ++ (p ∷ [])) ++ vs) = rw (e, append-nil us, append-nil (us ++ (p ∷ []))) (total-more us) in
       λ j. record { a = total-more us j; b = total r vs; all = f j }
 
   -- the player joins B
-  joins-b : (us vs : List ℕ) → _≡_ {A = Sums} (record { a = total r us; b = grown row rating (total r vs); all = grown row rating (total r (us ++ vs)) }) (record { a = total r us; b = total r (vs ++ (p ∷ [])); all = total r (us ++ (vs ++ (p ∷ []))) })
+  joins-b : (us vs : List ℕ) → _≡_ {A = Sums} (record { a = total r us; b = plusRow row rating (total r vs); all = plusRow row rating (total r (us ++ vs)) }) (record { a = total r us; b = total r (vs ++ (p ∷ [])); all = total r (us ++ (vs ++ (p ∷ []))) })
   joins-b us vs =
-      let f : grown row rating (total r (us ++ vs)) ≡ total r (us ++ (vs ++ (p ∷ []))) = total-more (us ++ vs) ∙ ap (total r) (append-assoc us vs (p ∷ [])) in
+      let f : plusRow row rating (total r (us ++ vs)) ≡ total r (us ++ (vs ++ (p ∷ []))) = total-more (us ++ vs) ∙ ap (total r) (append-assoc us vs (p ∷ [])) in
       λ j. record { a = total r us; b = total-more vs j; all = f j }
 
   -- the match with the player has the sums with the rating
-  pub filling-next : (s : TeamComposition) (m : MatchState) (x : Sums) → Filling r s m x → s .a ≤ 8 → s .b ≤ 8 → length (seated m) < seatsOf s → Filling r s (seatedNext s m p) (sumsWith x (ltb (length (m .a .players)) (s .a)) row rating)
+  pub filling-next : (s : TeamComposition) (m : MatchState) (x : Sums) → Summing r s m x → s .a ≤ 8 → s .b ≤ 8 → length (seated m) < seatsOf s → Summing r s (seatedNext s m p) (sumsWith x (ltb (length (m .a .players)) (s .a)) row rating)
   unfolding seatedNext sumsWith
   filling-next s m x fills a b h =
       let l = length-append (m .a .players) (m .b .players) in
@@ -91,22 +92,22 @@ module _ (r : Roster) (p : ℕ) (row : Bool) (rating : Float) (reads : (sum : Fl
       (record { room = fills .room; order = rw f; sums = joins-b (m .a .players) (m .b .players) }))
 
   -- and so have what the calls made of them
-  pub filling-with : (s : TeamComposition) (m : MatchState) (x : Sums) {first : Bool} {with : MatchState} {next : Sums} → Filling r s m x → s .a ≤ 8 → s .b ≤ 8 → length (seated m) < seatsOf s
-      → first ≡ ltb (length (m .a .players)) (s .a) → with ≡ seatedNext s m p → next ≡ sumsWith x first row rating → Filling r s with next
+  pub filling-with : (s : TeamComposition) (m : MatchState) (x : Sums) {first : Bool} {with : MatchState} {next : Sums} → Summing r s m x → s .a ≤ 8 → s .b ≤ 8 → length (seated m) < seatsOf s
+      → first ≡ ltb (length (m .a .players)) (s .a) → with ≡ seatedNext s m p → next ≡ sumsWith x first row rating → Summing r s with next
   filling-with s m x fills a b h e f g = rw (f, g, e) (filling-next s m x fills a b h)
 
 -- nobody is seated
-filling-none : (r : Roster) (s : TeamComposition) → Filling r s (lineup [] []) noSums
+filling-none : (r : Roster) (s : TeamComposition) → Summing r s (lineup [] []) noSums
 unfolding observations
 filling-none r s = record { room = omega arith; order = pick (λ (l : List ℕ). l ≡ []) (ltb 0 (s .a)) refl refl; sums = refl }
 
-pub filling-start : (r : Roster) (s : TeamComposition) {m : MatchState} {x : Sums} → m ≡ lineup [] [] → x ≡ noSums → Filling r s m x
+pub filling-start : (r : Roster) (s : TeamComposition) {m : MatchState} {x : Sums} → m ≡ lineup [] [] → x ≡ noSums → Summing r s m x
 filling-start r s e f = rw (e, f) (filling-none r s)
 
 -- ---- the score
 
 -- a match that is full has teams of the two sizes
-full : (r : Roster) (s : TeamComposition) (m : MatchState) (x : Sums) → Filling r s m x → length (seated m) ≡ seatsOf s → (length (m .a .players) ≡ s .a) × (length (m .b .players) ≡ s .b)
+full : (r : Roster) (s : TeamComposition) (m : MatchState) (x : Sums) → Summing r s m x → length (seated m) ≡ seatsOf s → (length (m .a .players) ≡ s .a) × (length (m .b .players) ≡ s .b)
 full r s m x fills e =
     let l = length-append (m .a .players) (m .b .players) in
     cases (ltb (length (m .a .players)) (s .a))
@@ -120,14 +121,14 @@ full r s m x fills e =
     (omega (arith, k, fills .room), omega (arith, l, e, k, fills .room)))
 
 -- its score is that of its sums
-full-score : (r : Roster) (s : TeamComposition) (m : MatchState) (x : Sums) (objectives : List SoftObjective) → Filling r s m x → length (seated m) ≡ seatsOf s → scoreBy objectives x (s .a) (s .b) ≡ softScoreOf r m objectives
+full-score : (r : Roster) (s : TeamComposition) (m : MatchState) (x : Sums) (objectives : List SoftObjective) → Summing r s m x → length (seated m) ≡ seatsOf s → scoreBy objectives x (s .a) (s .b) ≡ softScoreOf r m objectives
 unfolding scoreBy
 full-score r s m x objectives fills e =
     let f = full r s m x fills e in
     rw (fills .sums, ← f .0, ← f .1, length-append (m .a .players) (m .b .players))
 
 -- the score of a choice by the sums with its last player
-pub last-score : (r : Roster) (s : TeamComposition) (m : MatchState) (x : Sums) (p : ℕ) (objectives : List SoftObjective) (row first : Bool) (rating : Float) → ((sum : Float) → grown row rating sum ≡ absorb (add binary64) sum (ratingOf r p)) → Filling r s m x → s .a ≤ 8 → s .b ≤ 8
+pub last-score : (r : Roster) (s : TeamComposition) (m : MatchState) (x : Sums) (p : ℕ) (objectives : List SoftObjective) (row first : Bool) (rating : Float) → ((sum : Float) → plusRow row rating sum ≡ absorb (add binary64) sum (ratingOf r p)) → Summing r s m x → s .a ≤ 8 → s .b ≤ 8
     → length (seated m) + 1 ≡ seatsOf s → first ≡ ltb (length (m .a .players)) (s .a) → scoreBy objectives (sumsWith x first row rating) (s .a) (s .b) ≡ softScoreOf r (seatedNext s m p) objectives
 last-score r s m x p objectives row first rating reads fills a b h e =
     let k : length (seated m) < seatsOf s = omega arith in
@@ -149,7 +150,7 @@ or-not true e = refl
 or-not false e = e
 
 -- two or more passed, and the best of them scores higher than m: m is only counted, whether it passes or not
-pub idle-skipped : (t : Terms) (m : MatchState) (tried : ℕ) (found many bad : Bool) (p : Part) {score : Float} {idle : Bool} → score ≡ scoreIn t m → idle ≡ (found && (many && lt score (p .score))) → idle ≡ true
+pub idle-skipped : (t : Terms) (m : MatchState) (tried : ℕ) (found many bad : Bool) (p : Scored) {score : Float} {idle : Bool} → score ≡ scoreIn t m → idle ≡ (found && (many && lt score (p .score))) → idle ≡ true
     → skipped (record { tried = tried; best = cond found (some p) none; many = many; nan = bad }) ≡ weighed t (record { tried = tried; best = cond found (some p) none; many = many; nan = bad }) m
 unfolding weighed
 idle-skipped t m tried false many bad p e i h = never cc

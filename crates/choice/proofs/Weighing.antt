@@ -22,7 +22,7 @@ use Rattle.candidate.specs.Exhaustive.{exhaustiveMatches}
 use Rattle.candidate.specs.Walks.{through}
 use Rattle.candidate.proofs.Listings.{listing-count, through-split}
 use Rattle.choice.specs.Full.{Terms, passes, scoreIn, passing, bestAmong, chosen}
-use Rattle.choice.specs.Steps.{Part, SoFar, unweighed, orBetter, passed, skipped, weighed, concluding}
+use Rattle.choice.specs.Steps.{Scored, SoFar, unweighed, orBetter, passed, skipped, weighed, concluding}
 
 -- a test or nothing is the test
 or-false : (b : Bool) → (b || false) ≡ b
@@ -47,7 +47,7 @@ occupied-many score m (n ∷ ms) = lt-ltb 1 (length (map score (m ∷ n ∷ ms))
 
 module _ (t : Terms) where
   -- a match with its score
-  abbrev scored : MatchState → Part
+  abbrev scored : MatchState → Scored
   scored m = record { teams = m; score = scoreIn t m }
 
   -- the one that is kept is the better one with its score
@@ -99,7 +99,7 @@ module _ (t : Terms) where
       cases (passes t m)
       (λ y.
       ap (λ (q : SoFar). foldl (weighed t) q ms)
-      (weighed-passed p m y ∙ ap (λ (x : Part). record { tried = n + 1; best = some x; many = many || true; nan = nan || isNan (scoreIn t m) }) (better-scored b m))
+      (weighed-passed p m y ∙ ap (λ (x : Scored). record { tried = n + 1; best = some x; many = many || true; nan = nan || isNan (scoreIn t m) }) (better-scored b m))
       ∙ weighed-more ms (n + 1) (better (scoreIn t) b m) (many || true) (nan || isNan (scoreIn t m))
       ∙ known-more (n + 1 + length ms) b m many nan k
       ∙ rw (e, y))

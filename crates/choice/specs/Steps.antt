@@ -9,14 +9,14 @@ use Rattle.choice.specs.Full.{Terms, Selection, passes, scoreIn}
 use Rattle.choice.specs.declared.Best.{Best}
 
 -- a match with its score
-pub record Part : Type 0 where
+pub record Scored : Type 0 where
   pub teams : MatchState
   pub score : Float
 
 -- how many were tried, the best of those that passed, whether two or more did, and whether one of these scored NaN
 pub record SoFar : Type 0 where
   pub tried : ℕ
-  pub best : Option Part
+  pub best : Option Scored
   pub many : Bool
   pub nan : Bool
 
@@ -33,11 +33,11 @@ abbrev pub unweighed : SoFar
 unweighed = record { tried = 0; best = none; many = false; nan = false }
 
 -- x takes the place of the best unless it scores lower
-abbrev pub orBetter : Option Part → Part → Part
+abbrev pub orBetter : Option Scored → Scored → Scored
 orBetter none x = x
 orBetter (some b) x = cond (lt (x .score) (b .score)) b x
 
-abbrev pub isThere : Option Part → Bool
+abbrev pub isThere : Option Scored → Bool
 isThere none = false
 isThere (some b) = true
 
@@ -62,7 +62,7 @@ unfoldable pub weighed : Terms → SoFar → MatchState → SoFar
 weighed t b m = cond (passes t m) (passed b m (scoreIn t m)) (skipped b)
 
 -- what all choices come to
-abbrev pub teamsIn : Option Part → Option MatchState
+abbrev pub teamsIn : Option Scored → Option MatchState
 teamsIn none = none
 teamsIn (some p) = some (p .teams)
 

@@ -3,7 +3,7 @@ use Prim.Native.Nat.{ℕ, zero, suc, _+_, _≤_}
 use mathlib.Core.Path.{_≡_}
 use mathlib.Core.Bool.{Bool, true, false, cond, _&&_}
 use mathlib.Core.List.{List, [], map}
-use mathlib.Core.Option.{Option, none, some, Option·getD}
+use mathlib.Core.Option.{Option·getD}
 use lib.Dec.{ltb}
 use lib.Ieee.{Float, nan, binary64, add, lt}
 use lib.ListN.{length, getD}
@@ -13,13 +13,10 @@ use Rattle.matchmaker.specs.Quality.{MatchState, seated, observations, sumOf, a
 use Rattle.objective.specs.declared.soft.SoftObjective.{SoftObjective}
 use Rattle.objective.specs.Soft.{latencyAt, weightedSum}
 use Rattle.seating.specs.declared.TeamComposition.{TeamComposition}
+use Rattle.base.specs.Lists.{isSome}
 use Rattle.choice.specs.declared.Sums.{Sums}
 
 -- ---- what is read once
-
-abbrev pub isSome : {A : Type 0} → Option A → Bool
-isSome none = false
-isSome (some x) = true
 
 -- of the player at each place: is there a row, and which rating has it?
 abbrev pub rostered : List ℕ → List Float → List ℕ → List Bool
@@ -31,8 +28,8 @@ ratedAt ids ratings = map (λ p. Option·getD (observe ids ratings p) Floats.zer
 -- ---- the sums
 
 -- a sum with a rating, if there is a row
-abbrev pub grown : Bool → Float → Float → Float
-grown row rating sum = cond row (add binary64 sum rating) sum
+abbrev pub plusRow : Bool → Float → Float → Float
+plusRow row rating sum = cond row (add binary64 sum rating) sum
 
 abbrev pub noSums : Sums
 noSums = record { a = Floats.zero; b = Floats.zero; all = Floats.zero }
@@ -40,8 +37,8 @@ noSums = record { a = Floats.zero; b = Floats.zero; all = Floats.zero }
 -- the sums with one more player, who joins A or B
 unfoldable pub sumsWith : Sums → Bool → Bool → Float → Sums
 sumsWith x first row rating =
-    cond first (record { a = grown row rating (x .a); b = x .b; all = grown row rating (x .all) })
-    (record { a = x .a; b = grown row rating (x .b); all = grown row rating (x .all) })
+    cond first (record { a = plusRow row rating (x .a); b = x .b; all = plusRow row rating (x .all) })
+    (record { a = x .a; b = plusRow row rating (x .b); all = plusRow row rating (x .all) })
 
 -- the score of teams of these sums and lengths
 unfoldable pub scoreBy : List SoftObjective → Sums → ℕ → ℕ → Float
@@ -58,7 +55,7 @@ sumsOf r m =
     }
 
 -- a match while it fills, with its sums: nobody is in team B while A is short
-pub record Filling (r : Roster) (s : TeamComposition) (m : MatchState) (x : Sums) : Type 0 where
+pub record Summing (r : Roster) (s : TeamComposition) (m : MatchState) (x : Sums) : Type 0 where
   pub room : length (m .a .players) ≤ s .a
   pub order : cond (ltb (length (m .a .players)) (s .a)) (m .b .players) [] ≡ []
   pub sums : x ≡ sumsOf r m

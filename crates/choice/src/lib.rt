@@ -1,22 +1,22 @@
 // The best choice of a full round: every choice of the queue is tried, and the best of those that pass is kept.
 ghost use mathlib.Core.Path.{_≡_};
-ghost use mathlib.Core.Bool.{_&&_, _||_};
-ghost use mathlib.Core.Option.{Option·getD};
+ghost use mathlib.Core.Bool.{_&&_};
 ghost use lib.Dec.{ltb};
 ghost use lib.Ieee.{lt};
 ghost use Prim.Native.Nat.{_+_, _≤_, _<_, _^_};
+ghost use mathlib.Core.List.{[]};
 ghost use lib.ListN.{length, take, drop};
 ghost use Rattle.base.specs.Refusals.{refused, refusalNumber, checkedOf};
 ghost use Rattle.queue.specs.Queue.{queueOf};
 ghost use Rattle.base.specs.Floats as Floats;
-ghost use Rattle.roster.specs.Roster.{ofRules, observedOf};
+ghost use Rattle.roster.specs.Roster.{ofRules};
 ghost use Rattle.matchmaker.specs.Quality.{matchOf, seated};
-ghost use Rattle.seating.specs.Seating.{seatsOf};
+ghost use Rattle.seating.specs.Seating.{seatsOf, lineup};
 ghost use Rattle.candidate.specs.Choices.{ways};
 ghost use Rattle.candidate.specs.Walks.{through};
-ghost use Rattle.choice.specs.Full.{terms, choiceCheck, choiceRule, choiceOf};
+ghost use Rattle.choice.specs.Full.{terms, termsCheck, choiceCheck, choiceRule, ChoiceParts};
 ghost use Rattle.choice.specs.Steps.{soFarOf, passed, skipped, skippedBy, weighed, unweighed, concluding};
-ghost use Rattle.choice.specs.Sums.{isSome, rostered, ratedAt, grown, sumsWith, scoreBy, noSums, Filling, idleAt, idleFrom};
+ghost use Rattle.choice.specs.Sums.{rostered, ratedAt, plusRow, sumsWith, scoreBy, noSums, Summing, idleAt, idleFrom};
 use base::Checked;
 use base::Refusal;
 use constraint::Constraints;
@@ -50,29 +50,12 @@ pub struct Sums {
     pub all: f64,
 }
 
-// The match where one is chosen, and how many choices were tried.
+// The match where one is chosen, else nobody, and how many choices were tried, 0 where it is refused. What stands in a team's array
+// behind its players counts for nothing.
 pub struct Choice {
     pub verdict: Verdict,
     pub teams: ProposedMatch,
     pub tried: u64,
-}
-
-fn either(x: bool, y: bool) -> bool
-    ensures { λ r. ⌜ r ≡ (x || y) ⌝ }
-{
-    if x {
-        return true;
-    }
-    y
-}
-
-fn both(x: bool, y: bool) -> bool
-    ensures { λ r. ⌜ r ≡ (x && y) ⌝ }
-{
-    if x {
-        return y;
-    }
-    false
 }
 
 // One more choice that passes: it takes the place of the best unless it scores lower.
@@ -81,10 +64,10 @@ fn outdo(best: Best, teams: ProposedMatch, score: f64) -> Best
     ensures { λ r. ⌜ soFarOf r ≡ passed (soFarOf best) (matchOf teams) score ⌝ }
 {
     let tried = best.tried + 1;
-    let many = either(best.many, best.found);
-    let nan = either(best.nan, base::is_nan(score));
+    let many = best.many | best.found;
+    let nan = best.nan | base::is_nan(score);
     let lower = score < best.score;
-    if both(best.found, lower) {
+    if best.found & lower {
         let kept = best.teams;
         return Best {
             teams: kept,
@@ -153,26 +136,6 @@ fn weigh(
 
 // ---- what is read once: of the player at each place, is there a row, and which rating has it?
 
-// Was something observed?
-fn is_something(observed: Observed) -> bool
-    ensures { λ r. ⌜ r ≡ isSome (observedOf observed) ⌝ }
-{
-    match observed {
-        Observed::Of(_) => true,
-        Observed::Nothing => false,
-    }
-}
-
-// What was observed, or 0.0.
-fn or_zero(observed: Observed) -> f64
-    ensures { λ r. ⌜ r ≡ Option·getD (observedOf observed) Floats.zero ⌝ }
-{
-    match observed {
-        Observed::Of(x) => x,
-        Observed::Nothing => 0.0,
-    }
-}
-
 fn rows_of(queued: &[u64; 64], ids: &[u64], ratings: &[f64]) -> [bool; 64]
     requires { ⌜ length (now queued) ≡ 64 ⌝ }
     ensures { λ r. ⌜ r ≡ rostered (now (ids .entry)) (now (ratings .entry)) (now (queued .entry)) ⌝ }
@@ -180,7 +143,8 @@ fn rows_of(queued: &[u64; 64], ids: &[u64], ratings: &[f64]) -> [bool; 64]
     let mut out = [false; 64];
     let mut i: usize = 0;
     while i < 64 {
-        out[i] = is_something(roster::observation(ids, ratings, queued[i]));
+        let observed = roster::observation(ids, ratings, queued[i]);
+        out[i] = observed.is_something();
         i += 1;
     }
     out
@@ -193,7 +157,8 @@ fn ratings_of(queued: &[u64; 64], ids: &[u64], ratings: &[f64]) -> [f64; 64]
     let mut out = [0.0; 64];
     let mut i: usize = 0;
     while i < 64 {
-        out[i] = or_zero(roster::observation(ids, ratings, queued[i]));
+        let observed = roster::observation(ids, ratings, queued[i]);
+        out[i] = observed.or_zero();
         i += 1;
     }
     out
@@ -203,7 +168,7 @@ fn ratings_of(queued: &[u64; 64], ids: &[u64], ratings: &[f64]) -> [f64; 64]
 
 // The sum with the rating of the player at a place, if there is a row.
 fn plus(sum: f64, row: bool, rating: f64) -> f64
-    ensures { λ r. ⌜ r ≡ grown row rating sum ⌝ }
+    ensures { λ r. ⌜ r ≡ plusRow row rating sum ⌝ }
 {
     if row {
         return sum + rating;
@@ -248,7 +213,7 @@ fn is_idle(found: bool, many: bool, top: f64, score: f64) -> bool
     ensures { λ r. ⌜ r ≡ (found && (many && lt score top)) ⌝ }
 {
     let worse = score < top;
-    both(found, both(many, worse))
+    found & (many & worse)
 }
 
 // Is every choice idle whose last seat goes to one of the `rest` players from `from` on?
@@ -327,7 +292,7 @@ fn seat_last(
     requires { ⌜ length (now queued) ≡ 64 ⌝ }
     requires { ⌜ best .tried + rest < 2 ^ 64 ⌝ }
     requires { ⌜ (now rows ≡ rostered (now ids) (now ratings) (now queued)) × (now rated ≡ ratedAt (now ids) (now ratings) (now queued)) ⌝ }
-    requires { ⌜ Filling (ofRules (now ids) (now ratings) (now parties) (now roles) (now regions)) sizes (matchOf teams) sums ⌝ }
+    requires { ⌜ Summing (ofRules (now ids) (now ratings) (now parties) (now roles) (now regions)) sizes (matchOf teams) sums ⌝ }
     ensures { λ r. ⌜ soFarOf r ≡ through sizes (weighed (terms (ofRules (now (ids .entry)) (now (ratings .entry)) (now (parties .entry)) (now (roles .entry)) (now (regions .entry))) constraints objectives count)) (matchOf teams) 1 (take rest (drop from (now (queued .entry)))) (soFarOf best) ⌝ }
 {
     let first = is_a_short(sizes, teams);
@@ -387,7 +352,7 @@ fn seat_two(
     requires { ⌜ length (now queued) ≡ 64 ⌝ }
     requires { ⌜ best .tried + ways rest 2 < 2 ^ 64 ⌝ }
     requires { ⌜ (now rows ≡ rostered (now ids) (now ratings) (now queued)) × (now rated ≡ ratedAt (now ids) (now ratings) (now queued)) ⌝ }
-    requires { ⌜ Filling (ofRules (now ids) (now ratings) (now parties) (now roles) (now regions)) sizes (matchOf teams) sums ⌝ }
+    requires { ⌜ Summing (ofRules (now ids) (now ratings) (now parties) (now roles) (now regions)) sizes (matchOf teams) sums ⌝ }
     ensures { λ r. ⌜ soFarOf r ≡ through sizes (weighed (terms (ofRules (now (ids .entry)) (now (ratings .entry)) (now (parties .entry)) (now (roles .entry)) (now (regions .entry))) constraints objectives count)) (matchOf teams) 2 (take rest (drop from (now (queued .entry)))) (soFarOf best) ⌝ }
 {
     let first = is_a_short(sizes, teams);
@@ -442,8 +407,8 @@ fn seat_two(
     out
 }
 
-// Every choice of `left` of the `rest` players from `from` on, each seated behind those of `teams`, is weighed. It takes each player
-// in turn and goes on behind; the best so far passes through by value.
+// Every choice of `left` of the `rest` players from `from` on, each seated behind those of `teams`, is weighed. It takes the first of
+// them and then leaves that player, where enough are behind; the best so far passes through by value.
 fn walk(
     sizes: TeamComposition,
     queued: &[u64; 64],
@@ -468,9 +433,12 @@ fn walk(
     requires { ⌜ length (now queued) ≡ 64 ⌝ }
     requires { ⌜ best .tried + ways rest left < 2 ^ 64 ⌝ }
     requires { ⌜ (now rows ≡ rostered (now ids) (now ratings) (now queued)) × (now rated ≡ ratedAt (now ids) (now ratings) (now queued)) ⌝ }
-    requires { ⌜ Filling (ofRules (now ids) (now ratings) (now parties) (now roles) (now regions)) sizes (matchOf teams) sums ⌝ }
+    requires { ⌜ Summing (ofRules (now ids) (now ratings) (now parties) (now roles) (now regions)) sizes (matchOf teams) sums ⌝ }
     ensures { λ r. ⌜ soFarOf r ≡ through sizes (weighed (terms (ofRules (now (ids .entry)) (now (ratings .entry)) (now (parties .entry)) (now (roles .entry)) (now (regions .entry))) constraints objectives count)) (matchOf teams) left (take rest (drop from (now (queued .entry)))) (soFarOf best) ⌝ }
 {
+    if rest < left {
+        return best;
+    }
     if left == 0 {
         return weigh(
             constraints,
@@ -507,47 +475,70 @@ fn walk(
         );
     }
     let first = is_a_short(sizes, teams);
-    let mut out = best;
-    let mut at = from;
-    let mut behind = rest;
-    while left <= behind {
-        let with = candidate::exhaustive::seat(sizes, teams, queued[at]);
-        let next = sums_with(sums, first, rows[at], rated[at]);
-        out = walk(
-            sizes,
-            queued,
-            rows,
-            rated,
-            at + 1,
-            behind - 1,
-            left - 1,
-            with,
-            next,
-            constraints,
-            objectives,
-            count,
-            ids,
-            ratings,
-            parties,
-            roles,
-            regions,
-            out,
-        );
-        at += 1;
-        behind -= 1;
+    let with = candidate::exhaustive::seat(sizes, teams, queued[from]);
+    let next = sums_with(sums, first, rows[from], rated[from]);
+    let mid = walk(
+        sizes,
+        queued,
+        rows,
+        rated,
+        from + 1,
+        rest - 1,
+        left - 1,
+        with,
+        next,
+        constraints,
+        objectives,
+        count,
+        ids,
+        ratings,
+        parties,
+        roles,
+        regions,
+        best,
+    );
+    if rest == left {
+        return mid;
     }
-    out
+    walk(
+        sizes,
+        queued,
+        rows,
+        rated,
+        from + 1,
+        rest - 1,
+        left,
+        teams,
+        sums,
+        constraints,
+        objectives,
+        count,
+        ids,
+        ratings,
+        parties,
+        roles,
+        regions,
+        mid,
+    )
+}
+
+// Nobody is chosen, for this reason.
+fn unchosen(verdict: Verdict, tried: u64) -> Choice
+    ensures { λ r. ⌜ (r .verdict ≡ verdict) × ((matchOf (r .teams) ≡ lineup [] []) × (r .tried ≡ tried)) ⌝ }
+{
+    let none = seating::nobody();
+    Choice {
+        verdict: verdict,
+        teams: none,
+        tried: tried,
+    }
 }
 
 // No choice, for this refusal.
 fn refuse(refusal: Refusal) -> Choice
-    ensures { λ r. ⌜ choiceOf r ≡ refused (refusalNumber refusal) ⌝ }
+    ensures { λ r. ⌜ ChoiceParts (refused (refusalNumber refusal)) r ⌝ }
 {
-    Choice {
-        verdict: Verdict::Refused(refusal),
-        teams: seating::nobody(),
-        tried: 0,
-    }
+    unchosen(Verdict::Refused(refusal), 0)
 }
 
 // Nothing tried yet.
@@ -577,11 +568,11 @@ fn unsummed() -> Sums
 
 // What all choices come to.
 fn concluded(best: Best) -> Choice
-    ensures { λ r. ⌜ choiceOf r ≡ concluding (soFarOf best) ⌝ }
+    ensures { λ r. ⌜ ChoiceParts (concluding (soFarOf best)) r ⌝ }
 {
     let teams = best.teams;
     let tried = best.tried;
-    if both(best.many, best.nan) {
+    if best.many & best.nan {
         return refuse(Refusal::Unranked);
     }
     if best.found {
@@ -591,11 +582,35 @@ fn concluded(best: Best) -> Choice
             tried: tried,
         };
     }
-    Choice {
-        verdict: Verdict::Nothing,
-        teams: teams,
-        tried: tried,
+    unchosen(Verdict::Nothing, tried)
+}
+
+// Refusals 1 and 2 of what a full round brings.
+pub fn check_terms(
+    sizes: TeamComposition,
+    constraints: Constraints,
+    count: usize,
+    ids: &[u64],
+    ratings: &[f64],
+    parties: &[u64],
+    roles: &[u32],
+    regions: &[u8],
+) -> Checked
+    ensures { λ r. ⌜ checkedOf r ≡ termsCheck (ofRules (now (ids .entry)) (now (ratings .entry)) (now (parties .entry)) (now (roles .entry)) (now (regions .entry))) constraints count sizes ⌝ }
+{
+    if sizes.is_over() {
+        return Checked::Refused(Refusal::OverLimit);
     }
+    if constraints.is_over() {
+        return Checked::Refused(Refusal::OverLimit);
+    }
+    if 8 < count {
+        return Checked::Refused(Refusal::OverLimit);
+    }
+    if let Checked::Refused(refusal) = roster::check_rules(ids, ratings, parties, roles, regions) {
+        return Checked::Refused(refusal);
+    }
+    constraints.check_pairs()
 }
 
 // Refusals 1, 2, 4 and 6 of what a full round's choice is given.
@@ -615,22 +630,19 @@ fn check(
     if 64 < queue.len {
         return Checked::Refused(Refusal::OverLimit);
     }
-    if sizes.is_over() {
-        return Checked::Refused(Refusal::OverLimit);
-    }
-    if constraints.is_over() {
-        return Checked::Refused(Refusal::OverLimit);
-    }
-    if 8 < count {
-        return Checked::Refused(Refusal::OverLimit);
-    }
-    if let Checked::Refused(refusal) = roster::check_rules(ids, ratings, parties, roles, regions) {
+    if let Checked::Refused(refusal) = check_terms(
+        sizes,
+        constraints,
+        count,
+        ids,
+        ratings,
+        parties,
+        roles,
+        regions,
+    ) {
         return Checked::Refused(refusal);
     }
-    if let Checked::Refused(refusal) = constraints.check_pairs() {
-        return Checked::Refused(refusal);
-    }
-    if queue.has_late() {
+    if queue.has_joined_over() {
         return Checked::Refused(Refusal::Clock);
     }
     if 20 < queue.len {
@@ -652,7 +664,7 @@ pub fn best_choice(
     roles: &[u32],
     regions: &[u8],
 ) -> Choice
-    ensures { λ r. ⌜ choiceOf r ≡ choiceRule (terms (ofRules (now (ids .entry)) (now (ratings .entry)) (now (parties .entry)) (now (roles .entry)) (now (regions .entry))) constraints objectives count) sizes (queueOf queue) ⌝ }
+    ensures { λ r. ⌜ ChoiceParts (choiceRule (terms (ofRules (now (ids .entry)) (now (ratings .entry)) (now (parties .entry)) (now (roles .entry)) (now (regions .entry))) constraints objectives count) sizes (queueOf queue)) r ⌝ }
 {
     if let Checked::Refused(refusal) = check(
         queue,

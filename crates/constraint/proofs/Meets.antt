@@ -1,20 +1,16 @@
 -- The laws of parties, ratings and regions: the turns of their loops, the answers of each kind, and what bringing nothing,
 -- an empty list of pairs and a pair turned round come to.
 use Prim.Native.Nat.{ℕ, _+_, _≤_, _<_}
-use mathlib.Core.Path.{_≡_, refl, sym, ap, _∙_}
-use mathlib.Core.Bool.{Bool, true, false, not, cond, _&&_, _||_, or-comm, and-false}
-use mathlib.Core.List.{List, [], _∷_, _++_}
+use mathlib.Core.Path.{_≡_, refl, sym, _∙_}
+use mathlib.Core.Bool.{true, false, not, _&&_, or-comm, and-false}
+use mathlib.Core.List.{List, [], _∷_}
 use native.Mathlib.Numerals.{add-one}
-use borrow.Author.Tests.{not-true, not-false, ne-eqb, eqb-true}
+use borrow.Author.Tests.{not-true, not-false, ne-eqb}
 use lib.Dec.{eqb}
-use lib.ListN.{length, take, drop, getD, drop-of-length-le}
+use lib.ListN.{length, drop, getD, drop-of-length-le}
 use lib.Seq.{drop-cons}
 use Rattle.base.specs.Lists.{seek, every, member}
-use Rattle.base.specs.Refusals.{Outcome, refused}
 use Rattle.base.proofs.Members.{every-fails}
-use Rattle.base.proofs.Cases.{cases, never}
-use Rattle.base.proofs.Loops.{seek-hit-of, seek-on-of, seek-end-of}
-use Rattle.base.proofs.Arrays.{all-held, held-fits}
 use Rattle.roster.specs.Roster.{Roster, regionOf}
 use Rattle.matchmaker.specs.Quality.{MatchState}
 use Rattle.constraint.specs.Constraints.{partySeated, allows, mayMeet, pairsOf, constraintsHold}

@@ -1,7 +1,7 @@
 -- The laws of role counts, of a team's report, and of the answers of sizes, roles and teams.
 use Prim.Native.Nat.{ℕ, suc, _+_, _≤_, _<_}
 use mathlib.Core.Path.{_≡_, refl, sym, ap, _∙_}
-use mathlib.Core.Bool.{Bool, true, false, cond, _||_}
+use mathlib.Core.Bool.{Bool, true, false, cond}
 use mathlib.Core.List.{List, [], _∷_, _++_}
 use native.Mathlib.Numerals.{add-one}
 use native.Mathlib.Omega.{arith}
@@ -9,7 +9,7 @@ use borrow.Author.Tests.{lt-ltb, le-ltb, ltb-true, ltb-false, le-leb, lt-leb}
 use lib.Dec.{ltb}
 use lib.ListN.{length, take, drop, getD, length-append}
 use Rattle.base.specs.Lists.{seek, every, keep}
-use Rattle.base.specs.Refusals.{Outcome, refused, gives}
+use Rattle.base.specs.Refusals.{gives}
 use Rattle.base.proofs.Arrays.{peel, peeled}
 use Rattle.base.proofs.Loops.{keep-append}
 use Rattle.base.proofs.Cases.{cases, never}

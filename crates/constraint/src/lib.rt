@@ -6,7 +6,7 @@ ghost use mathlib.Core.Bool.{not, _&&_, _||_};
 ghost use Rattle.roster.specs.Roster.{ofRatings, ofParties, ofRoles, ofRegions, ofRules};
 ghost use Rattle.matchmaker.specs.Quality.{matchOf};
 ghost use Rattle.constraint.specs.Constraints.{sizesHold, rolesHold, partiesHold, latencyHolds, regionsHold, constraintsHold};
-ghost use Rattle.constraint.specs.Refusing.{verdictOf, sizesOver, rolesOver, regionsOver, constraintsOver, broughtPairsCheck, constraintsRule};
+ghost use Rattle.constraint.specs.Refusing.{verdictOf, bothSizesOver, rolesOver, regionsOver, constraintsOver, broughtPairsCheck, constraintsRule};
 use crate::regions::RegionConstraint;
 use crate::roles::RoleConstraint;
 use crate::sizes::TeamSizeConstraint;
@@ -45,7 +45,7 @@ impl Constraints {
     // ---- each kind passes where it is not brought
 
     fn sizes_over(self) -> bool
-        ensures { λ r. ⌜ r ≡ (self .brought .sizes && sizesOver (self .sizes)) ⌝ }
+        ensures { λ r. ⌜ r ≡ (self .brought .sizes && bothSizesOver (self .sizes)) ⌝ }
     {
         let brought = self.brought;
         let sizes = self.sizes;

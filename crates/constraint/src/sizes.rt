@@ -2,7 +2,7 @@
 ghost use mathlib.Core.Path.{_≡_};
 ghost use Rattle.matchmaker.specs.Quality.{matchOf};
 ghost use Rattle.constraint.specs.Constraints.{sizesHold};
-ghost use Rattle.constraint.specs.Refusing.{verdictOf, sizesOver, sizesRule};
+ghost use Rattle.constraint.specs.Refusing.{verdictOf, bothSizesOver, sizesRule};
 use crate::verdicts::Verdict;
 use base::Refusal;
 use matchmaker::ProposedMatch;
@@ -16,7 +16,7 @@ pub struct TeamSizeConstraint {
 impl TeamSizeConstraint {
     // Is a size over 8?
     pub(crate) fn is_over(self) -> bool
-        ensures { λ r. ⌜ r ≡ sizesOver self ⌝ }
+        ensures { λ r. ⌜ r ≡ bothSizesOver self ⌝ }
     {
         if 8 < self.a {
             return true;

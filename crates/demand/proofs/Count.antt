@@ -9,10 +9,10 @@ use Rattle.base.specs.Lists.{Within}
 use Rattle.base.proofs.Members.{length-remove, length-stay}
 use Rattle.matchmaker.specs.Quality.{MatchState}
 use Rattle.seating.specs.Seating.{seats}
-use Rattle.search.proofs.Drawn.{Drawn}
+use Rattle.seating.proofs.Drawn.{Drawn}
 use Rattle.hall.specs.Hall.{HallState, entryOf, book, withdraw, deal, signed, Judgement, known, clash, full, fresh, judge, Turn, turn}
 use Rattle.hall.specs.Rounds.{sizesOf, findings, matchesFrom}
-use Rattle.demand.specs.Calls.{Call, keyed, round, no-kind, answered, Step, step, after, answers, mark, isOriginal, isBooking, isWithdrawal, matchesOf, taken, one, acceptedIn, withdrawnIn, seatedIn}
+use Rattle.demand.specs.Calls.{Call, keyed, round, no-kind, answered, Step, step, after, answers, mark, isOriginal, isBooking, isWithdrawal, matchesHanded, taken, oneIf, acceptedIn, withdrawnIn, seatedIn}
 use Rattle.hall.specs.declared.Booking.{Booking}
 use Rattle.demand.proofs.Deals.{book-elim, withdraw-elim}
 use Rattle.demand.proofs.Keys.{signatures, toMark, mark-judge}
@@ -26,19 +26,19 @@ use Rattle.demand.proofs.Thin.{grow-step}
 Balanced : HallState → Call → Step → Type 0
 Balanced h c t =
     length (t .hall .waiting .bookings)
-    + (one (isOriginal (mark (signatures (h .log .records)) c) && (isWithdrawal c && taken (t .answer))) + length (seats (matchesOf c (t .answer))))
-    ≡ length (h .waiting .bookings) + one (isOriginal (mark (signatures (h .log .records)) c) && (isBooking c && taken (t .answer)))
+    + (oneIf (isOriginal (mark (signatures (h .log .records)) c) && (isWithdrawal c && taken (t .answer))) + length (seats (matchesHanded c (t .answer))))
+    ≡ length (h .waiting .bookings) + oneIf (isOriginal (mark (signatures (h .log .records)) c) && (isBooking c && taken (t .answer)))
 
 -- a booking that is not refused adds one
-balance-book : (ws : List Booking) (b : Booking) → length (deal (book b) ws .waiting) + (0 + 0) ≡ length ws + one (taken (answered (deal (book b) ws .answer)))
+balance-book : (ws : List Booking) (b : Booking) → length (deal (book b) ws .waiting) + (0 + 0) ≡ length ws + oneIf (taken (answered (deal (book b) ws .answer)))
 balance-book ws b =
-    book-elim (λ r. length (r .waiting) + (0 + 0) ≡ length ws + one (taken (answered (r .answer)))) b ws (λ n. refl)
+    book-elim (λ r. length (r .waiting) + (0 + 0) ≡ length ws + oneIf (taken (answered (r .answer)))) b ws (λ n. refl)
     (λ m l. rw length-append (omega arith))
 
 -- a withdrawal that is not refused takes one
-balance-withdraw : (ws : List Booking) (p : ℕ) → length (deal (withdraw p) ws .waiting) + (one (taken (answered (deal (withdraw p) ws .answer))) + 0) ≡ length ws + 0
+balance-withdraw : (ws : List Booking) (p : ℕ) → length (deal (withdraw p) ws .waiting) + (oneIf (taken (answered (deal (withdraw p) ws .answer))) + 0) ≡ length ws + 0
 balance-withdraw ws p =
-    withdraw-elim (λ r. length (r .waiting) + (one (taken (answered (r .answer))) + 0) ≡ length ws + 0) p ws (λ n. refl)
+    withdraw-elim (λ r. length (r .waiting) + (oneIf (taken (answered (r .answer))) + 0) ≡ length ws + 0) p ws (λ n. refl)
     (λ m. omega (arith, length-remove (λ (b : Booking). b .player) p ws (waits p ws ∙ m)))
 
 -- every call is balanced
@@ -47,8 +47,8 @@ unfolding Balanced seats
 balance-served h (keyed k (book b)) s = rw (mark-judge (h .log .records) (signed k (book b)) (s .readable)) (go (judge (h .log .records) (signed k (book b))))
   where
     go : (v : Judgement) → (let t : Turn = turn h (signed k (book b)) (deal (book b) (h .waiting .bookings)) v in
-        length (t .hall .waiting .bookings) + (one (isOriginal (toMark v) && (false && taken (answered (t .answer)))) + 0)
-        ≡ length (h .waiting .bookings) + one (isOriginal (toMark v) && (true && taken (answered (t .answer)))))
+        length (t .hall .waiting .bookings) + (oneIf (isOriginal (toMark v) && (false && taken (answered (t .answer)))) + 0)
+        ≡ length (h .waiting .bookings) + oneIf (isOriginal (toMark v) && (true && taken (answered (t .answer)))))
     go (known a) = refl
     go clash = refl
     go full = refl
@@ -56,8 +56,8 @@ balance-served h (keyed k (book b)) s = rw (mark-judge (h .log .records) (signed
 balance-served h (keyed k (withdraw p)) s = rw (mark-judge (h .log .records) (signed k (withdraw p)) (s .readable)) (go (judge (h .log .records) (signed k (withdraw p))))
   where
     go : (v : Judgement) → (let t : Turn = turn h (signed k (withdraw p)) (deal (withdraw p) (h .waiting .bookings)) v in
-        length (t .hall .waiting .bookings) + (one (isOriginal (toMark v) && (true && taken (answered (t .answer)))) + 0)
-        ≡ length (h .waiting .bookings) + one (isOriginal (toMark v) && (false && taken (answered (t .answer)))))
+        length (t .hall .waiting .bookings) + (oneIf (isOriginal (toMark v) && (true && taken (answered (t .answer)))) + 0)
+        ≡ length (h .waiting .bookings) + oneIf (isOriginal (toMark v) && (false && taken (answered (t .answer)))))
     go (known a) = refl
     go clash = refl
     go full = refl

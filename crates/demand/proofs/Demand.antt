@@ -8,12 +8,12 @@ use Rattle.base.specs.Refusals.{Outcome, refused, gives}
 use Rattle.base.proofs.Cases.{never}
 use Rattle.seating.specs.declared.TeamComposition.{TeamComposition}
 use Rattle.seating.specs.Seating.{Sheets}
-use Rattle.search.specs.Seats.{Seating}
+use Rattle.seating.specs.Seats.{Seating}
 use Rattle.choice.specs.Full.{Terms}
 use Rattle.hall.specs.Hall.{HallState, entryOf, empty, Deed}
 use Rattle.hall.specs.Rounds.{RoundCall, full, sizesOf, entriesFor, Found, findings, matchesFrom, turnFrom, FullRound}
 use Rattle.hall.proofs.Found.{findings-best}
-use Rattle.demand.specs.Calls.{Call, keyed, round, no-kind, kindOf, playerOf, Answer, handed, Step, rounded, step, after, answers, mark, original, resend, originals, leave, matchesOf}
+use Rattle.demand.specs.Calls.{Call, keyed, round, no-kind, kindOf, playerOf, Answer, handed, Step, rounded, step, after, answers, mark, original, resend, originals, leave, matchesHanded}
 use Rattle.demand.specs.Demand.{Resent, Thinned, countGiven, Demand3}
 use Rattle.demand.proofs.Sameness.{Alike, alike-true, alike-of}
 use Rattle.demand.proofs.Orderly.{Sane, step-served, sane-after, sane-empty, drawn, told, grows}
@@ -64,16 +64,16 @@ thinned m calls = let l : Left empty (leave m [] calls) calls = left-out empty m
 -- ---- rounds
 
 -- the matches that the sheet tells are those that the round found
-told-step : (h : HallState) (c : RoundCall) → Sane h → matchesOf (round c) (step h (round c) .answer) ≡ matchesFrom (findings c (h .waiting .bookings))
-told-step h c s = ap (λ (t : Step). matchesOf (round c) (t .answer)) (step-served h (round c) s) ∙ told h c s
+told-step : (h : HallState) (c : RoundCall) → Sane h → matchesHanded (round c) (step h (round c) .answer) ≡ matchesFrom (findings c (h .waiting .bookings))
+told-step h c s = ap (λ (t : Step). matchesHanded (round c) (t .answer)) (step-served h (round c) s) ∙ told h c s
 
 -- so they seat different guests who waited just before, A and B in each
-seating : (h : HallState) (c : RoundCall) → Sane h → Seating (sizesOf (c .round)) (map entryOf (h .waiting .bookings)) (matchesOf (round c) (step h (round c) .answer))
+seating : (h : HallState) (c : RoundCall) → Sane h → Seating (sizesOf (c .round)) (map entryOf (h .waiting .bookings)) (matchesHanded (round c) (step h (round c) .answer))
 seating h c s =
     subst (Seating (sizesOf (c .round)) (map entryOf (h .waiting .bookings))) (sym (told-step h c s)) (drawn h c s .seating)
 
 -- a full round not refused
-fulls : (h : HallState) (s : TeamComposition) (t : Terms) (c : RoundCall) (n : ℕ) → Sane h → c .round ≡ full s t → countGiven (step h (round c) .answer) ≡ gives n → FullRound t s (entriesFor c (h .waiting .bookings)) (matchesOf (round c) (step h (round c) .answer))
+fulls : (h : HallState) (s : TeamComposition) (t : Terms) (c : RoundCall) (n : ℕ) → Sane h → c .round ≡ full s t → countGiven (step h (round c) .answer) ≡ gives n → FullRound t s (entriesFor c (h .waiting .bookings)) (matchesHanded (round c) (step h (round c) .answer))
 fulls h s t c n o p e =
     subst (FullRound t s (entriesFor c (h .waiting .bookings))) (sym (told-step h c o))
     (go (findings c (h .waiting .bookings)) refl (rw (step-served h (round c) o) at e))

@@ -10,15 +10,16 @@ use lib.ListN.{length, length-append}
 use Rattle.base.specs.Refusals.{Outcome, refused, gives}
 use Rattle.base.specs.Lists.{any, member, Distinct, All}
 use Rattle.base.proofs.Loops.{seek-map}
-use Rattle.base.proofs.Members.{distinct-snoc, distinct-remove, length-remove, distinct-keep, length-keep, stay-nobody, all-append}
+use Rattle.base.proofs.Members.{distinct-snoc, distinct-remove, length-remove, distinct-keep, length-keep, stay-nobody}
+use Rattle.base.proofs.All.{all-append}
 use Rattle.base.proofs.Lookup.{unfound-absent}
 use Rattle.seating.specs.Seating.{seats, readOff}
-use Rattle.search.proofs.Drawn.{Drawn, drawn-none, drawn-told}
+use Rattle.seating.proofs.Drawn.{Drawn, drawn-none, drawn-told}
 use Rattle.hall.specs.declared.Booking.{Booking}
 use Rattle.hall.specs.Hall.{HallState, WaitState, LogState, bookedBy, withoutGuests, entryOf, empty, isOver, Deed, book, withdraw, deal, signed, fresh, judge, Turn, turn}
-use Rattle.hall.specs.Rounds.{RoundCall, sizesOf, Found, findings, qualityBy, matchesFrom, leaving, turnFrom}
+use Rattle.hall.specs.Rounds.{RoundCall, sizesOf, Found, findings, qualityBy, matchesFrom, departing, turnFrom}
 use Rattle.hall.proofs.Found.{findings-drawn}
-use Rattle.demand.specs.Calls.{Call, keyed, round, no-kind, answered, Step, turnedAway, rounded, step, after, matchesOf}
+use Rattle.demand.specs.Calls.{Call, keyed, round, no-kind, answered, Step, turnedAway, rounded, step, after, matchesHanded}
 use Rattle.demand.specs.Demand.{Orderly, Grown}
 use Rattle.demand.proofs.Deals.{book-elim, withdraw-elim, read-back}
 use Rattle.demand.proofs.Keys.{turn-elim, Readable, New, judge-fresh}
@@ -118,12 +119,12 @@ drawn h c s = go (findings c (h .waiting .bookings)) refl
     go (gives f) e = findings-drawn c (h .waiting .bookings) f e (s .orderly .players)
 
 -- the sheet tells them
-pub told : (h : HallState) (c : RoundCall) → Sane h → matchesOf (round c) (served h (round c) .answer) ≡ matchesFrom (findings c (h .waiting .bookings))
+pub told : (h : HallState) (c : RoundCall) → Sane h → matchesHanded (round c) (served h (round c) .answer) ≡ matchesFrom (findings c (h .waiting .bookings))
 unfolding readOff
 told h c s = go (findings c (h .waiting .bookings)) (drawn h c s)
   where
     go : (x : Outcome Found) → Drawn (sizesOf (c .round)) (map entryOf (h .waiting .bookings)) (matchesFrom x) →
-        matchesOf (round c) (rounded (turnFrom h c x) .answer) ≡ matchesFrom x
+        matchesHanded (round c) (rounded (turnFrom h c x) .answer) ≡ matchesFrom x
     go (refused n) r = refl
     go (gives f) r = drawn-told (sizesOf (c .round)) (map entryOf (h .waiting .bookings)) (qualityBy (c .round)) (c .sheets) (f .matches) r
 
@@ -132,7 +133,7 @@ pub left : (h : HallState) (c : RoundCall) → served h (round c) .hall .waiting
 unfolding seats
 left h c = go (findings c (h .waiting .bookings))
   where
-    go : (x : Outcome Found) → leaving h x .waiting .bookings ≡ withoutGuests (seats (matchesFrom x)) (h .waiting .bookings)
+    go : (x : Outcome Found) → departing h x .waiting .bookings ≡ withoutGuests (seats (matchesFrom x)) (h .waiting .bookings)
     go (refused n) = sym (stay-nobody (λ b. b .player) (h .waiting .bookings))
     go (gives f) = refl
 
@@ -140,7 +141,7 @@ left h c = go (findings c (h .waiting .bookings))
 pub log-stays : (h : HallState) (c : RoundCall) → served h (round c) .hall .log ≡ h .log
 log-stays h c = go (findings c (h .waiting .bookings))
   where
-    go : (x : Outcome Found) → leaving h x .log ≡ h .log
+    go : (x : Outcome Found) → departing h x .log ≡ h .log
     go (refused n) = refl
     go (gives f) = refl
 
@@ -148,7 +149,7 @@ log-stays h c = go (findings c (h .waiting .bookings))
 round-sane : (h : HallState) (c : RoundCall) → Sane h → Sane (served h (round c) .hall)
 round-sane h c s = go (findings c (h .waiting .bookings))
   where
-    go : (x : Outcome Found) → Sane (leaving h x)
+    go : (x : Outcome Found) → Sane (departing h x)
     go (refused n) = s
     go (gives f) =
         record {

@@ -137,11 +137,11 @@ different seen (k ∷ ks) = different (cond (member k seen) seen (seen ++ (k ∷
 
 -- ---- matches, as the answer and the guests' sheet of a round tell them
 
-abbrev pub matchesOf : Call → Answer → List MatchState
-matchesOf (keyed k d) a = []
-matchesOf (round c) (answered a) = []
-matchesOf (round c) (handed h tried) = toldBy (sizesOf (c .round)) h
-matchesOf (no-kind s) a = []
+abbrev pub matchesHanded : Call → Answer → List MatchState
+matchesHanded (keyed k d) a = []
+matchesHanded (round c) (answered a) = []
+matchesHanded (round c) (handed h tried) = toldBy (sizesOf (c .round)) h
+matchesHanded (no-kind s) a = []
 
 -- ---- the numbers
 
@@ -162,26 +162,26 @@ isWithdrawal (keyed k (withdraw p)) = true
 isWithdrawal (round c) = false
 isWithdrawal (no-kind s) = false
 
-abbrev pub one : Bool → ℕ
-one true = 1
-one false = 0
+abbrev pub oneIf : Bool → ℕ
+oneIf true = 1
+oneIf false = 0
 
 -- "Accepted and withdrawn count the original bookings and the original withdrawals not refused"
 abbrev pub acceptedIn : List Signature → List Call → List Answer → ℕ
 acceptedIn o [] rs = 0
 acceptedIn o (c ∷ cs) [] = 0
-acceptedIn o (c ∷ cs) (a ∷ rs) = one (isOriginal (mark o c) && (isBooking c && taken a)) + acceptedIn (grow o c) cs rs
+acceptedIn o (c ∷ cs) (a ∷ rs) = oneIf (isOriginal (mark o c) && (isBooking c && taken a)) + acceptedIn (grow o c) cs rs
 
 abbrev pub withdrawnIn : List Signature → List Call → List Answer → ℕ
 withdrawnIn o [] rs = 0
 withdrawnIn o (c ∷ cs) [] = 0
-withdrawnIn o (c ∷ cs) (a ∷ rs) = one (isOriginal (mark o c) && (isWithdrawal c && taken a)) + withdrawnIn (grow o c) cs rs
+withdrawnIn o (c ∷ cs) (a ∷ rs) = oneIf (isOriginal (mark o c) && (isWithdrawal c && taken a)) + withdrawnIn (grow o c) cs rs
 
 -- "seated adds up the guests of each match"
 abbrev pub seatedIn : List Call → List Answer → ℕ
 seatedIn [] rs = 0
 seatedIn (c ∷ cs) [] = 0
-seatedIn (c ∷ cs) (a ∷ rs) = length (seats (matchesOf c a)) + seatedIn cs rs
+seatedIn (c ∷ cs) (a ∷ rs) = length (seats (matchesHanded c a)) + seatedIn cs rs
 
 -- ---- who waits, by the calls and their answers alone: "from an original booking of him not refused until an original withdrawal of
 -- him not refused or a match that seats him .. in the order booked"
@@ -191,7 +191,7 @@ moved true (keyed k (book b)) a ws = ws ++ (b ∷ [])
 moved true (keyed k (withdraw p)) a ws = withoutGuest p ws
 moved false (keyed k (book b)) a ws = ws
 moved false (keyed k (withdraw p)) a ws = ws
-moved t (round c) a ws = withoutGuests (seats (matchesOf (round c) a)) ws
+moved t (round c) a ws = withoutGuests (seats (matchesHanded (round c) a)) ws
 moved t (no-kind s) a ws = ws
 
 abbrev pub replay : List Signature → List Booking → List Call → List Answer → List Booking

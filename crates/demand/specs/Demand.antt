@@ -9,11 +9,11 @@ use Rattle.base.specs.Refusals.{Outcome, refused, gives}
 use Rattle.base.specs.Lists.{member, Distinct}
 use Rattle.seating.specs.declared.TeamComposition.{TeamComposition}
 use Rattle.seating.specs.Seating.{Sheets}
-use Rattle.search.specs.Seats.{Seating}
+use Rattle.seating.specs.Seats.{Seating}
 use Rattle.choice.specs.Full.{Terms}
 use Rattle.hall.specs.Hall.{HallState, awaiting, entryOf, KeyRecord, logging, empty, Deed}
 use Rattle.hall.specs.Rounds.{RoundCall, full, sizesOf, entriesFor, FullRound}
-use Rattle.demand.specs.Calls.{Call, keyed, round, no-kind, kindOf, playerOf, Answer, answered, handed, step, after, answers, mark, original, resend, originals, leave, thin, keysOf, different, matchesOf, acceptedIn, withdrawnIn, seatedIn, replay}
+use Rattle.demand.specs.Calls.{Call, keyed, round, no-kind, kindOf, playerOf, Answer, answered, handed, step, after, answers, mark, original, resend, originals, leave, thin, keysOf, different, matchesHanded, acceptedIn, withdrawnIn, seatedIn, replay}
 
 -- ---- what holds of the hall at every moment
 
@@ -91,11 +91,11 @@ pub record Demand3 (calls : List Call) : Type 0 where
   pub queue : (pre post : List Call) → calls ≡ pre ++ post → after empty pre .waiting .bookings ≡ replay [] [] pre (answers empty pre)
   -- each match seats exactly A + B different guests, all waiting just before, none in two matches of the round
   pub seating : (pre post : List Call) (c : RoundCall) → calls ≡ pre ++ (round c ∷ post) →
-      Seating (sizesOf (c .round)) (map entryOf (after empty pre .waiting .bookings)) (matchesOf (round c) (step (after empty pre) (round c) .answer))
+      Seating (sizesOf (c .round)) (map entryOf (after empty pre .waiting .bookings)) (matchesHanded (round c) (step (after empty pre) (round c) .answer))
   -- a full round not refused hands out a match exactly when some choice passes, and no other passing choice scores higher
   pub fulls : (pre post : List Call) (s : TeamComposition) (t : Terms) (c : RoundCall) (n : ℕ) → calls ≡ pre ++ (round c ∷ post) →
       c .round ≡ full s t → countGiven (step (after empty pre) (round c) .answer) ≡ gives n →
-      FullRound t s (entriesFor c (after empty pre .waiting .bookings)) (matchesOf (round c) (step (after empty pre) (round c) .answer))
+      FullRound t s (entriesFor c (after empty pre .waiting .bookings)) (matchesHanded (round c) (step (after empty pre) (round c) .answer))
   -- a full round one of whose soft kinds is none answers 1, and leaves the hall and its sheets as they were
   pub no-kinds : (pre post : List Call) (s : Sheets) → calls ≡ pre ++ (no-kind s ∷ post) →
       step (after empty pre) (no-kind s) ≡ record { hall = after empty pre; answer = handed (record { answer = refused 1; sheets = s }) 0 }

@@ -23,18 +23,19 @@ use Rattle.objective.specs.declared.soft.SoftObjective.the-variants.{Wait}
 use Rattle.objective.specs.declared.pareto.MatchObjectiveVector.{MatchObjectiveVector}
 use Rattle.seating.specs.declared.TeamComposition.{TeamComposition}
 use Rattle.seating.specs.Seating.{Sheets, lineup, seats}
-use Rattle.search.specs.Turns.{grown}
+use Rattle.seating.specs.Turns.{grown}
 use Rattle.constraint.specs.declared.Constraints.{Constraints}
 use Rattle.candidate.specs.Choices.{choices, ways}
 use Rattle.candidate.specs.Exhaustive.{exhaustiveMatches}
 use Rattle.choice.specs.Full.{terms, chosen}
+use Rattle.hall.specs.declared.Booking.{Booking}
 use Rattle.hall.specs.Hall.{HallState, same, KeyRecord, hallWith, empty, book, withdraw, bookingAnswer, deal, answerIn, judge}
 use Rattle.hall.specs.Rounds as Rounds
 use Rattle.hall.specs.Rounds.{findings}
 use Rattle.demand.specs.Calls as Calls
 use Rattle.demand.specs.Calls.{Call, keyed, Answer, answered, handed, step, after, answers, markOf, leave, thin}
-use Rattle.search.specs.Beam.{expansions, stepped, steps, beamOf, beaming, beamMatches}
-use Rattle.search.specs.Greedy.{goesBefore, closer, nearest, filled, anchored, greedyMatches}
+use Rattle.beam.specs.Beam.{expansions, stepped, steps, beamOf, beaming, beamMatches}
+use Rattle.greedy.specs.Greedy.{goesBefore, closer, nearest, filled, anchored, greedyMatches}
 
 -- 100.0, 0.75, and the ratings of the table's guests and of the entries about 1000
 abbrev hundred : Float
@@ -95,9 +96,12 @@ unconstrained =
       regions = record { pairs = []; count = 0 };
     }
 
--- a booking under a key for a guest of rating 1000
+-- a guest of rating 1000 who waits, and the booking under a key
+abbrev waiter : ℕ → Booking
+waiter player = record { player = player; joined = 0; rating = thousand; party = 0; role = 0 }
+
 abbrev booking : ℕ → ℕ → Call
-booking key player = keyed key (book (record { player = player; joined = 0; rating = thousand; party = 0; role = 0 }))
+booking key player = keyed key (book (waiter player))
 
 abbrev withdrawal : ℕ → ℕ → Call
 withdrawal key player = keyed key (withdraw player)
@@ -124,6 +128,19 @@ paired p q = handed (record { answer = gives 1; sheets = sheets (p ∷ q ∷ [])
 
 abbrev accepted : Answer
 accepted = answered (gives tt)
+
+-- a full round 1+1 by the wait objective only, and its answer: one match, of quality 0.0, after so many choices
+abbrev choosing : Call
+choosing =
+    Calls.round
+    (record {
+      round = Rounds.full (sizes 1 1) (terms (record { ids = 1 ∷ 2 ∷ 3 ∷ []; ratings = replicate 3 thousand; deviations = []; parties = replicate 3 0; roles = replicate 3 0; regions = replicate 3 4 }) unconstrained (Wait one ∷ []) 1);
+      clock = 0;
+      sheets = sheets [] [];
+    })
+
+abbrev chose : ℕ → ℕ → ℕ → Answer
+chose p q n = handed (record { answer = gives 1; sheets = sheets (p ∷ q ∷ []) (zero ∷ []) }) n
 
 -- the note of a call that was accepted: key, kind and guest
 abbrev noted : ℕ → ℕ → ℕ → KeyRecord
@@ -167,7 +184,8 @@ Holds (pick reference queue e) = nearest reference [] queue ≡ some e
 
 -- "Differences 0, 100, 400, NaN: 1.0, 0.75, 0.0, 0.0." "Equal vectors do not dominate." "Greedy 2+2: A {1, 4}, B {3, 2}, quality
 -- 0.75." "Greedy 0+1: none." "Beam width 0: 1+1 none; 1+0 one match a guest." "Exhaustive 2+2: A {1, 2}, B {3, 4} only."
--- "Exhaustive 1+1 of guests 1, 2, 3: (1,2), (1,3), (2,3)." "Full round on those, wait objective only: (2,3), tried 3."
+-- "Exhaustive 1+1 of guests 1, 2, 3: (1,2), (1,3), (2,3)." "Full round on those, wait objective only: (2,3), tried 3.": of the choice, and of the
+-- hall's round after three bookings, whose sheets it writes and whose seated leave.
 -- "Booking key 7 guest 1 accepted; again: accepted, one waiting; key 7 guest 2: 7; key 8 guest 1: 9."
 -- "Reference 1000, entries 1010 then 990: 1010."; document 02, 2.2: "the case of 1010 then 990 has equal" joined times. Where the one of
 -- 990 joined earlier it goes first; a nearer one goes first whenever it joined; a rating of NaN or infinity never.
@@ -190,6 +208,11 @@ lines =
     ∷ exhaustive (sizes 2 2) guests (lineup (1 ∷ 2 ∷ []) (3 ∷ 4 ∷ []) ∷ [])
     ∷ exhaustive (sizes 1 1) (take 3 guests) (pair 1 2 ∷ pair 1 3 ∷ pair 2 3 ∷ [])
     ∷ full (sizes 1 1) (take 3 guests) (Wait one ∷ []) (pair 2 3) 3
+    ∷ story
+    (booking 1 1 ∷ booking 2 2 ∷ booking 3 3 ∷ choosing ∷ [])
+    (false ∷ false ∷ false ∷ false ∷ [])
+    (accepted ∷ accepted ∷ accepted ∷ chose 2 3 3 ∷ [])
+    (hallWith (waiter 1 ∷ []) (noted 1 0 1 ∷ noted 2 0 2 ∷ noted 3 0 3 ∷ []))
     ∷ calls (booking 7 1 ∷ []) (gives tt ∷ []) 1
     ∷ calls (booking 7 1 ∷ booking 7 1 ∷ []) (gives tt ∷ gives tt ∷ []) 1
     ∷ calls (booking 7 1 ∷ booking 7 2 ∷ []) (gives tt ∷ refused 7 ∷ []) 1
@@ -207,4 +230,4 @@ lines =
 
 pub at-the-table : All Holds lines
 unfolding qualityAt absOf minOf dominatesOf anyBelow seek keep observe observations averageFrom goesBefore closer grown filled anchored insertBy expansions stepped steps beamOf seats secondsOf longer scoreFrom choices ways findings step judge bookingAnswer deal same answerIn markOf removeFirst distinct weighted latencyAt mul add div sub lt le eq ne isNan ofInt ofBits round
-at-the-table = (refl, (refl, (refl, (refl, (refl, (refl, ((refl, refl), ((refl, refl), (refl, (refl, (refl, (refl, (refl, (refl, ((refl, refl), ((refl, refl), ((refl, refl), ((refl, refl), ((refl, (refl, (refl, (refl, refl)))), (refl, (refl, (refl, (refl, tt)))))))))))))))))))))))
+at-the-table = (refl, (refl, (refl, (refl, (refl, (refl, ((refl, refl), ((refl, refl), (refl, (refl, (refl, (refl, (refl, (refl, ((refl, (refl, (refl, (refl, refl)))), ((refl, refl), ((refl, refl), ((refl, refl), ((refl, refl), ((refl, (refl, (refl, (refl, refl)))), (refl, (refl, (refl, (refl, tt))))))))))))))))))))))))

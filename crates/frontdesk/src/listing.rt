@@ -25,7 +25,7 @@ fn clock_of(text: &[u8], heard: Heard) -> Clock {
         return Clock::Nothing;
     }
     let clock = given.whole(fields::AT);
-    if queue::time::is_late(clock) {
+    if queue::time::is_over(clock) {
         refusals::refused(Refusal::Clock);
         return Clock::Nothing;
     }

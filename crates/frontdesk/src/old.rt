@@ -17,11 +17,11 @@ use crate::words;
 use crate::words::Heard;
 use base::Checked;
 use base::Refusal;
+use beam::BeamSearch;
 use check::same;
+use greedy::GreedySearch;
 use queue::Enqueued;
 use queue::Queue;
-use search::beam::BeamSearch;
-use search::greedy::GreedySearch;
 use seating::Formed;
 
 // `old entry ..` and so on. The word behind `old` is heard as the command, so that complaints name it.
@@ -167,7 +167,7 @@ fn timely(formed: Formed, clock: u64) -> Formed {
     let Formed::Count(count) = formed else {
         return formed;
     };
-    if queue::time::is_late(clock) {
+    if queue::time::is_over(clock) {
         return Formed::Refused(Refusal::Clock);
     }
     Formed::Count(count)

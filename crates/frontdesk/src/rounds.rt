@@ -13,6 +13,7 @@ use crate::tables::Before;
 use crate::values;
 use crate::words;
 use crate::words::Heard;
+use beam::BeamSearch;
 use capi::halls;
 use capi::halls::Rounded;
 use capi::rules::Constraints;
@@ -20,7 +21,6 @@ use capi::scores::SoftObjectives;
 use hall::Hall;
 use hall::waiting;
 use objective::score::MatchObjective;
-use search::beam::BeamSearch;
 use seating::TeamComposition;
 
 pub const TIMED: u32 = fields::AT;

@@ -18,7 +18,7 @@ use Rattle.base.specs.Lists.{any, All}
 use Rattle.base.specs.Refusals.{Outcome, refused, gives, guarded, refusalNumber, checkedOf}
 use Rattle.base.proofs.Cases.{never}
 use Rattle.base.proofs.Checks.{neither, guard-refuses, guard-passes, passed-to}
-use Rattle.queue.specs.Time.{late}
+use Rattle.queue.specs.Time.{timeOver}
 use Rattle.queue.specs.Queue.{QueueState, holding}
 use Rattle.roster.specs.Roster.{Roster, rulesCheck}
 use Rattle.matchmaker.specs.Quality.{MatchState, seated}
@@ -30,56 +30,43 @@ use Rattle.seating.specs.Seating.{Sheets, sizesOver, seatsOf, areShort, seats, 
 use Rattle.seating.specs.Steps.{overlaid}
 use Rattle.seating.proofs.Laws.{sizes-in, overlaid-fits}
 use Rattle.candidate.specs.Exhaustive.{tooWide}
-use Rattle.choice.specs.Full.{Terms, Selection, terms, chosen, choiceCheck, choiceRule}
+use Rattle.choice.specs.Full.{Terms, Selection, terms, termsCheck, chosen, choiceCheck, choiceRule}
+use Rattle.choice.proofs.Checking.{over}
 use Rattle.choice.proofs.FullLaws.{chosen-best}
-use Rattle.hall.specs.Hall.{hasLate, entryOf}
+use Rattle.hall.specs.Hall.{hasTimeOver, entryOf}
 use Rattle.hall.specs.Rounds.{full, RoundCall, calling, listOf, selected, findings, matchesFrom}
 use Rattle.hall.specs.Steps.{fullCheck, HandedNumbers, FoundNumbers}
 use Rattle.hall.specs.declared.Booking.{Booking}
 use Rattle.hall.specs.declared.rounds.Handed.{Handed}
-use Rattle.hall.proofs.RoundLaws.{refusing, handed-refused, handed-given, entries-fit, entries-late}
+use Rattle.hall.proofs.RoundLaws.{refusing, handed-refused, handed-given, entries-fit, entries-over}
 
 -- ---- the check
 
--- over a limit
-abbrev pub over : TeamComposition → Constraints → ℕ → Bool
-over s c count = sizesOver s || (constraintsOver c || ltb 8 count)
-
-module _ (s : TeamComposition) (c : Constraints) (count : ℕ) (r : Roster) (clock players qualities : ℕ) where
-  -- what is checked behind the columns and the pairs
+module _ (s : TeamComposition) (c : Constraints) (count : ℕ) (r : Roster) (clock players qualities : ℕ) (k : Checked) (g : checkedOf k ≡ termsCheck r c count s) where
+  -- what is checked behind the terms
   abbrev timely : Outcome Unit
-  timely = cond (areShort players qualities) (refused 3) (cond (late clock) (refused 4) (gives tt))
+  timely = cond (areShort players qualities) (refused 3) (cond (timeOver clock) (refused 4) (gives tt))
 
-  -- over a limit
-  pub refuses-1 : over s c count ≡ true → refused 1 ≡ fullCheck s c count r clock players qualities
-  refuses-1 e = rw e
+  -- the terms
+  pub refuses-terms : {x : Refusal} → k ≡ Refused x → refused (refusalNumber x) ≡ fullCheck s c count r clock players qualities
+  refuses-terms e = guard-refuses timely k e g
 
-  module _ (in-limits : over s c count ≡ false) (k : Checked) (g : checkedOf k ≡ rulesCheck r) where
-    -- the columns of the roster
-    pub refuses-columns : {x : Refusal} → k ≡ Refused x → refused (refusalNumber x) ≡ fullCheck s c count r clock players qualities
-    refuses-columns e = rw in-limits (guard-refuses (guarded (broughtPairsCheck c) timely) k e g)
+  module _ (fine : k ≡ Passed) where
+    -- what comes behind them
+    behind : {o : Outcome Unit} → o ≡ timely → o ≡ fullCheck s c count r clock players qualities
+    behind e = e ∙ guard-passes timely k fine g
 
-    module _ (passed : k ≡ Passed) (j : Checked) (f : checkedOf j ≡ broughtPairsCheck c) where
-      -- the constraints' pairs
-      pub refuses-pairs : {x : Refusal} → j ≡ Refused x → refused (refusalNumber x) ≡ fullCheck s c count r clock players qualities
-      refuses-pairs e = rw in-limits (guard-refuses timely j e f ∙ guard-passes (guarded (broughtPairsCheck c) timely) k passed g)
+    -- short sheets
+    pub refuses-3 : areShort players qualities ≡ true → refused 3 ≡ fullCheck s c count r clock players qualities
+    refuses-3 e = behind (rw e)
 
-      module _ (fine : j ≡ Passed) where
-        -- what comes behind both
-        behind : {o : Outcome Unit} → o ≡ timely → o ≡ fullCheck s c count r clock players qualities
-        behind e = rw in-limits (e ∙ guard-passes timely j fine f ∙ guard-passes (guarded (broughtPairsCheck c) timely) k passed g)
+    -- a clock above 2^53
+    pub refuses-4 : areShort players qualities ≡ false → timeOver clock ≡ true → refused 4 ≡ fullCheck s c count r clock players qualities
+    refuses-4 e l = behind (rw (e, l))
 
-        -- short sheets
-        pub refuses-3 : areShort players qualities ≡ true → refused 3 ≡ fullCheck s c count r clock players qualities
-        refuses-3 e = behind (rw e)
-
-        -- a late clock
-        pub refuses-4 : areShort players qualities ≡ false → late clock ≡ true → refused 4 ≡ fullCheck s c count r clock players qualities
-        refuses-4 e l = behind (rw (e, l))
-
-        -- neither
-        pub passes-all : areShort players qualities ≡ false → late clock ≡ false → gives tt ≡ fullCheck s c count r clock players qualities
-        passes-all e l = behind (rw (e, l))
+    -- neither
+    pub passes-all : areShort players qualities ≡ false → timeOver clock ≡ false → gives tt ≡ fullCheck s c count r clock players qualities
+    passes-all e l = behind (rw (e, l))
 
 -- what the check tells by passing
 pub record Held (s : TeamComposition) (players qualities : ℕ) : Type 0 where
@@ -89,7 +76,7 @@ pub record Held (s : TeamComposition) (players qualities : ℕ) : Type 0 where
   pub qualities-fit : 64 ≤ qualities
 
 -- a check that passes refuses nothing
-passing : (t : Bool) (o p : Outcome Unit) (u l : Bool) → _≡_ {A = Outcome Unit} (gives tt) (cond t (refused 1) (guarded o (guarded p (cond u (refused 3) (cond l (refused 4) (gives tt)))))) → (t ≡ false) × (u ≡ false)
+passing : (t : Bool) (o p : Outcome Unit) (u l : Bool) → _≡_ {A = Outcome Unit} (gives tt) (guarded (cond t (refused 1) (guarded o p)) (cond u (refused 3) (cond l (refused 4) (gives tt)))) → (t ≡ false) × (u ≡ false)
 passing true o p u l e = never cc
 passing false (refused n) p u l e = never cc
 passing false (gives v) (refused n) u l e = never cc
@@ -99,7 +86,7 @@ passing false (gives v) (gives w) false l e = (refl, refl)
 -- the limits hold
 pub held : (s : TeamComposition) (c : Constraints) (count : ℕ) (r : Roster) (clock players qualities : ℕ) {k : Checked} → k ≡ Passed → checkedOf k ≡ fullCheck s c count r clock players qualities → Held s players qualities
 held s c count r clock players qualities e g =
-    let p = passing (over s c count) (rulesCheck r) (broughtPairsCheck c) (areShort players qualities) (late clock) (sym (ap checkedOf e) ∙ g) in
+    let p = passing (over c count s) (rulesCheck r) (broughtPairsCheck c) (areShort players qualities) (timeOver clock) (sym (ap checkedOf e) ∙ g) in
     let z = sizes-in s (neither (sizesOver s) (constraintsOver c || ltb 8 count) (p .0) .0) in
     let y = neither (ltb players 64) (ltb qualities 64) (p .1) in
     record {
@@ -145,19 +132,17 @@ module _ (sheets : Sheets) {v : Outcome Selection} where
 -- ---- the check and the choice's own are those of the round
 
 -- test by test
-chain : (w ov : Bool) (o p : Outcome Unit) (sh lc le wide : Bool) (v : Outcome Selection) → w ≡ false →
-    guarded (cond ov (refused 1) (guarded (guarded o p) (cond sh (refused 3) (cond (lc || le) (refused 4) (cond wide (refused 6) (gives tt)))))) (selected v)
-    ≡ guarded (cond ov (refused 1) (guarded o (guarded p (cond sh (refused 3) (cond lc (refused 4) (gives tt))))))
-    (selected (guarded (cond (w || ov) (refused 1) (guarded o (guarded p (cond le (refused 4) (cond wide (refused 6) (gives tt)))))) v))
-chain true ov o p sh lc le wide v e = never cc
-chain false true o p sh lc le wide v e = refl
-chain false false (refused n) p sh lc le wide v e = refl
-chain false false (gives u) (refused n) sh lc le wide v e = refl
-chain false false (gives u) (gives x) true lc le wide v e = refl
-chain false false (gives u) (gives x) false true le wide v e = refl
-chain false false (gives u) (gives x) false false true wide v e = refl
-chain false false (gives u) (gives x) false false false true v e = refl
-chain false false (gives u) (gives x) false false false false v e = refl
+chain : (w : Bool) (o : Outcome Unit) (sh lc le wide : Bool) (v : Outcome Selection) → w ≡ false →
+    guarded (guarded o (cond sh (refused 3) (cond (lc || le) (refused 4) (cond wide (refused 6) (gives tt))))) (selected v)
+    ≡ guarded (guarded o (cond sh (refused 3) (cond lc (refused 4) (gives tt))))
+    (selected (guarded (cond w (refused 1) (guarded o (cond le (refused 4) (cond wide (refused 6) (gives tt))))) v))
+chain true o sh lc le wide v e = never cc
+chain false (refused n) sh lc le wide v e = refl
+chain false (gives u) true lc le wide v e = refl
+chain false (gives u) false true le wide v e = refl
+chain false (gives u) false false true wide v e = refl
+chain false (gives u) false false false true v e = refl
+chain false (gives u) false false false false v e = refl
 
 module _ (s : TeamComposition) (c : Constraints) (objectives : List SoftObjective) (count : ℕ) (r : Roster) (clock : ℕ) (sheets : Sheets) (ws : List Booking) (few : length ws ≤ 64) where
   -- the terms and the call
@@ -174,9 +159,9 @@ module _ (s : TeamComposition) (c : Constraints) (objectives : List SoftObjectiv
   full-found : findings call ws ≡ guarded (fullCheck s c count r clock (length (sheets .players)) (length (sheets .qualities))) (selected (choiceRule given s queue))
   unfolding findings
   full-found =
-      rw (entries-late ws)
-      (chain (ltb 64 (length (map entryOf ws))) (over s c count) (rulesCheck r) (broughtPairsCheck c)
-      (areShort (length (sheets .players)) (length (sheets .qualities))) (late clock) (any hasLate ws) (tooWide (map entryOf ws)) (chosen given s (map entryOf ws)) (entries-fit ws few))
+      rw (entries-over ws)
+      (chain (ltb 64 (length (map entryOf ws))) (termsCheck r c count s)
+      (areShort (length (sheets .players)) (length (sheets .qualities))) (timeOver clock) (any hasTimeOver ws) (tooWide (map entryOf ws)) (chosen given s (map entryOf ws)) (entries-fit ws few))
 
   module _ (k : Checked) (checked : checkedOf k ≡ fullCheck s c count r clock (length (sheets .players)) (length (sheets .qualities))) where
     -- the check refuses

@@ -11,8 +11,10 @@ use Rattle.queue.specs.declared.QueueEntry.{QueueEntry}
 use Rattle.matchmaker.specs.Quality.{MatchState}
 use Rattle.seating.specs.declared.TeamComposition.{TeamComposition}
 use Rattle.seating.specs.Seating.{seats}
-use Rattle.search.specs.Beam.{beaming, beamMatches}
-use Rattle.search.proofs.Drawn.{Drawn, drawn-none, greedy-drawn, beam-drawn}
+use Rattle.beam.specs.Beam.{beaming, beamMatches}
+use Rattle.seating.proofs.Drawn.{Drawn, drawn-none}
+use Rattle.greedy.proofs.Drawn.{greedy-drawn}
+use Rattle.beam.proofs.Drawn.{beam-drawn}
 use Rattle.candidate.proofs.ListingLaws.{Filled}
 use Rattle.choice.specs.Full.{Terms, Selection, chosen}
 use Rattle.choice.proofs.FullLaws as Full

@@ -19,8 +19,8 @@ use Rattle.base.proofs.Cases.{never}
 use Rattle.base.proofs.Checks.{guard-refuses, guard-passes, passed-to}
 use Rattle.base.proofs.Loops.{seek-map}
 use Rattle.base.proofs.Numbers.{refusal-back}
-use Rattle.queue.specs.Time.{late}
-use Rattle.queue.specs.Queue.{QueueState, isLate, holding}
+use Rattle.queue.specs.Time.{timeOver}
+use Rattle.queue.specs.Queue.{QueueState, joinedOver, holding}
 use Rattle.roster.specs.Roster.{Roster, ratingsCheck, deviationsCheck}
 use Rattle.matchmaker.specs.Quality.{MatchState, seated, qualityOf}
 use Rattle.objective.specs.declared.score.MatchObjective.{MatchObjective}
@@ -29,13 +29,13 @@ use Rattle.seating.specs.declared.Formed.{Formed}
 use Rattle.seating.specs.declared.Formed.the-variants as Formed
 use Rattle.seating.specs.Seating.{Sheets, HandedOut, sizesOver, seatsOf, areShort, seats, handedOut, leaving}
 use Rattle.seating.proofs.Laws.{length-seats}
-use Rattle.search.specs.Greedy.{greedyMatches, greedyCheck, greedyRule}
-use Rattle.search.specs.Beam.{beaming, beamMatches, beamCheck, beamRule}
-use Rattle.search.proofs.Seating.{all-so}
-use Rattle.search.proofs.Seats.{greedy-sized}
-use Rattle.search.proofs.BeamSeats.{beam-sized}
-use Rattle.search.proofs.Sheets.{beam-fit}
-use Rattle.hall.specs.Hall.{hasLate, entryOf}
+use Rattle.greedy.specs.Greedy.{greedyMatches, greedyCheck, greedyRule}
+use Rattle.beam.specs.Beam.{beaming, beamMatches, beamCheck, beamRule}
+use Rattle.base.proofs.All.{all-so}
+use Rattle.greedy.proofs.Seats.{greedy-sized}
+use Rattle.beam.proofs.Seats.{beam-sized}
+use Rattle.beam.proofs.Sheets.{beam-fit}
+use Rattle.hall.specs.Hall.{hasTimeOver, entryOf}
 use Rattle.hall.specs.Rounds.{greedy, beam, RoundCall, Found, calling, untried, findings}
 use Rattle.hall.specs.Steps.{HandedNumbers, FoundNumbers}
 use Rattle.hall.specs.declared.Booking.{Booking}
@@ -147,14 +147,14 @@ all-seated s =
 pub entries-fit : (ws : List Booking) → length ws ≤ 64 → ltb 64 (length (map entryOf ws)) ≡ false
 entries-fit ws few = rw (length-map ws entryOf) (le-ltb 64 (length ws) few)
 
--- an entry is late where its booking is
-pub entries-late : (ws : List Booking) → any isLate (map entryOf ws) ≡ any hasLate ws
-entries-late ws = seek-map entryOf isLate (λ x. true) false ws
+-- an entry's time is above 2^53 where its booking's is
+pub entries-over : (ws : List Booking) → any joinedOver (map entryOf ws) ≡ any hasTimeOver ws
+entries-over ws = seek-map entryOf joinedOver (λ x. true) false ws
 
 -- ---- the greedy round
 
 -- the checks of the search, and then of the clock, are those of the round
-chain : {A : Type 0} (w so : Bool) (o : Outcome Unit) (sh lc le : Bool) (v : Outcome A) → w ≡ false → guarded (cond so (refused 1) (guarded o (cond sh (refused 3) (cond (lc || le) (refused 4) (gives tt))))) v ≡ guarded (cond (w || so) (refused 1) (guarded o (cond sh (refused 3) (cond le (refused 4) (gives tt))))) (cond lc (refused 4) v)
+chain : {A : Type 0} (w so : Bool) (o : Outcome Unit) (sh lc le : Bool) (v : Outcome A) → w ≡ false → guarded (guarded (cond so (refused 1) o) (cond sh (refused 3) (cond (lc || le) (refused 4) (gives tt)))) v ≡ guarded (cond (w || so) (refused 1) (guarded o (cond sh (refused 3) (cond le (refused 4) (gives tt))))) (cond lc (refused 4) v)
 chain true so o sh lc le v e = never cc
 chain false true o sh lc le v e = refl
 chain false false (refused n) sh lc le v e = refl
@@ -179,11 +179,11 @@ module _ (ws : List Booking) (few : length ws ≤ 64) (q : QueueState) (whole : 
   searched = guarded check (gives (greedyMatches s r (q .entries)))
 
   -- what is found stands behind the check and the clock
-  greedy-found : findings call ws ≡ guarded check (cond (late clock) (refused 4) (gives (record { matches = greedyMatches s r (q .entries); tried = 0 })))
+  greedy-found : findings call ws ≡ guarded check (cond (timeOver clock) (refused 4) (gives (record { matches = greedyMatches s r (q .entries); tried = 0 })))
   unfolding findings
   greedy-found =
-      rw (whole, entries-late ws)
-      (chain (ltb 64 (length (map entryOf ws))) (sizesOver s) (ratingsCheck r) (areShort (length (sheets .players)) (length (sheets .qualities))) (late clock) (any hasLate ws) _ (entries-fit ws few))
+      rw (whole, entries-over ws)
+      (chain (ltb 64 (length (map entryOf ws))) (sizesOver s) (ratingsCheck r) (areShort (length (sheets .players)) (length (sheets .qualities))) (timeOver clock) (any hasTimeOver ws) _ (entries-fit ws few))
 
   module _ (k : Checked) (checked : checkedOf k ≡ check) where
     -- the check refuses
@@ -191,12 +191,12 @@ module _ (ws : List Booking) (few : length ws ≤ 64) (q : QueueState) (whole : 
     greedy-refused x e g = handed-refused quality sheets x (greedy-found ∙ sym (guard-refuses _ k e checked)) g
 
     module _ (passed : k ≡ Passed) where
-      -- the clock is late
-      pub greedy-late : late clock ≡ true → {h : Handed} → h ≡ refusing Clock → FoundNumbers call ws h (sheets .players) (sheets .qualities)
-      greedy-late l g = handed-refused quality sheets Clock (greedy-found ∙ sym (guard-passes _ k passed checked) ∙ rw l) g
+      -- the clock is above 2^53
+      pub greedy-clock : timeOver clock ≡ true → {h : Handed} → h ≡ refusing Clock → FoundNumbers call ws h (sheets .players) (sheets .qualities)
+      greedy-clock l g = handed-refused quality sheets Clock (greedy-found ∙ sym (guard-passes _ k passed checked) ∙ rw l) g
 
       -- it is not: what is found is what the search gives
-      searched-found : late clock ≡ false → findings call ws ≡ untried searched
+      searched-found : timeOver clock ≡ false → findings call ws ≡ untried searched
       searched-found l =
           greedy-found ∙ sym (guard-passes _ k passed checked) ∙ rw l (ap untried (guard-passes (gives (greedyMatches s r (q .entries))) k passed checked))
 
@@ -210,7 +210,7 @@ module _ (ws : List Booking) (few : length ws ≤ 64) (q : QueueState) (whole : 
       -- what the search left
       module _ (f : Formed) {ps : List ℕ} {qs : List Float} (left : leaving f ps qs ≡ greedyRule s r q sheets) where
         -- it refuses
-        pub greedy-search-refused : late clock ≡ false → (x : Refusal) → f ≡ Formed.Refused x → {h : Handed} → h ≡ refusing x → FoundNumbers call ws h ps qs
+        pub greedy-search-refused : timeOver clock ≡ false → (x : Refusal) → f ≡ Formed.Refused x → {h : Handed} → h ≡ refusing x → FoundNumbers call ws h ps qs
         greedy-search-refused l = search-refused quality sheets (seatsOf s) searched sized f left (searched-found l)
 
         module _ (n : ℕ) (e : f ≡ Formed.Count n) where
@@ -219,13 +219,13 @@ module _ (ws : List Booking) (few : length ws ≤ 64) (q : QueueState) (whole : 
           greedy-fits = search-fits quality sheets (seatsOf s) searched sized f left n e
 
           -- it gives matches
-          pub greedy-given : late clock ≡ false → FoundNumbers call ws (handing n (seatsOf s) 0) ps qs
+          pub greedy-given : timeOver clock ≡ false → FoundNumbers call ws (handing n (seatsOf s) 0) ps qs
           greedy-given l = search-given quality sheets (seatsOf s) searched sized f left n e (searched-found l)
 
 -- ---- the beam round
 
 -- the checks of the search are those of the round
-chain-of-beam : (w over : Bool) (o : Outcome Unit) (sh l : Bool) (v : Outcome (List MatchState)) → w ≡ false → guarded (cond over (refused 1) (guarded o (cond sh (refused 3) (cond l (refused 4) (gives tt))))) (untried v) ≡ untried (guarded (cond (w || over) (refused 1) (guarded o (cond sh (refused 3) (cond l (refused 4) (gives tt))))) v)
+chain-of-beam : (w over : Bool) (o : Outcome Unit) (sh l : Bool) (v : Outcome (List MatchState)) → w ≡ false → guarded (guarded (cond over (refused 1) o) (cond sh (refused 3) (cond l (refused 4) (gives tt)))) (untried v) ≡ untried (guarded (cond (w || over) (refused 1) (guarded o (cond sh (refused 3) (cond l (refused 4) (gives tt))))) v)
 chain-of-beam true over o sh l v e = never cc
 chain-of-beam false true o sh l v e = refl
 chain-of-beam false false (refused n) sh l v e = refl
@@ -251,8 +251,8 @@ module _ (ws : List Booking) (few : length ws ≤ 64) (q : QueueState) (whole : 
   beam-found : findings beamCall ws ≡ untried (guarded beamChecked beamed)
   unfolding findings
   beam-found =
-      rw (whole, entries-late ws)
-      (chain-of-beam (ltb 64 (length (map entryOf ws))) (sizesOver s || ltb 32 width) (deviationsCheck r) (areShort (length (sheets .players)) (length (sheets .qualities))) (late clock || any hasLate ws) _ (entries-fit ws few))
+      rw (whole, entries-over ws)
+      (chain-of-beam (ltb 64 (length (map entryOf ws))) (sizesOver s || ltb 32 width) (deviationsCheck r) (areShort (length (sheets .players)) (length (sheets .qualities))) (timeOver clock || any hasTimeOver ws) _ (entries-fit ws few))
 
   -- every match seats A + B
   beam-seated : (ms : List MatchState) → guarded beamChecked beamed ≡ gives ms → All (λ m. length (seated m) ≡ seatsOf s) ms

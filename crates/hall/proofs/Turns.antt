@@ -16,7 +16,7 @@ use Rattle.base.proofs.Loops.{removed-absent}
 use Rattle.base.proofs.Numbers.{number-accepts, number-refuses, number-back}
 use Rattle.hall.specs.declared.Booking.{Booking}
 use Rattle.hall.specs.declared.Note.{Note}
-use Rattle.hall.specs.Hall.{WaitState, waitsWith, awaiting, bookedBy, hasLate, withoutGuest, same, recordOf, logWith, HallState, overLimits, Deed, book, withdraw, Deal, bookingAnswer, withdrawalAnswer, deal, Signature, contentOf, signed, answerIn, recorded, lookUp, clash, knownOr, judge, Turn, turn, keyedRule}
+use Rattle.hall.specs.Hall.{WaitState, waitsWith, awaiting, bookedBy, hasTimeOver, withoutGuest, same, recordOf, logWith, HallState, overLimits, Deed, book, withdraw, Deal, bookingAnswer, withdrawalAnswer, deal, Signature, contentOf, signed, answerIn, recorded, lookUp, clash, knownOr, judge, Turn, turn, keyedRule}
 use Rattle.hall.specs.Steps.{heardOr, heardFrom, noteWith}
 use Rattle.hall.proofs.KeyLaws.{noNote, records-held, noted-there, noted-nowhere, logged}
 
@@ -42,7 +42,7 @@ pub accepted-room : (b : Booking) (w : Bool) (k r : ℕ) → outcomeIn r tt ≡ 
 unfolding bookingAnswer
 accepted-room b w k r e z =
     cases (ltb k 64) (λ t. ltb-true k 64 t)
-    (λ f. never (no-room (hasLate b) w (sym (number-accepts r (tt {0}) z) ∙ (rw f at e))))
+    (λ f. never (no-room (hasTimeOver b) w (sym (number-accepts r (tt {0}) z) ∙ (rw f at e))))
 
 -- a withdrawal takes the guest's booking away, if there is one
 pub withdrawn : (p : ℕ) (ws : List Booking) (w : Bool) (r : ℕ) → w ≡ any (bookedBy p) ws → outcomeIn r tt ≡ withdrawalAnswer w → _≡_ {A = Deal} (record { waiting = withoutGuest p ws; answer = outcomeIn r tt }) (deal (withdraw p) ws)

@@ -8,7 +8,7 @@ use lib.ListN.{length, take}
 use Rattle.base.specs.Refusals.{Outcome, refused, gives}
 use Rattle.base.specs.Numbers.{refusalOf}
 use Rattle.base.specs.Lists.{seek, any, keep, removeFirst, member}
-use Rattle.queue.specs.Time.{late}
+use Rattle.queue.specs.Time.{timeOver}
 use Rattle.queue.specs.declared.QueueEntry.{QueueEntry}
 use Rattle.hall.specs.declared.Booking.{Booking}
 use Rattle.hall.specs.declared.Note.{Note}
@@ -33,9 +33,9 @@ awaiting bs = record { size = length bs; bookings = bs }
 abbrev pub bookedBy : ℕ → Booking → Bool
 bookedBy p b = eqb (b .player) p
 
--- a booking with a late time
-abbrev pub hasLate : Booking → Bool
-hasLate b = late (b .joined)
+-- a booking whose time is above 2^53
+abbrev pub hasTimeOver : Booking → Bool
+hasTimeOver b = timeOver (b .joined)
 
 -- the bookings without the guest's first one
 abbrev pub withoutGuest : ℕ → List Booking → List Booking
@@ -130,7 +130,7 @@ pub record Deal : Type 0 where
 
 -- a booking: 4, 9, 10, or accepted. Does its guest wait, and is there room?
 unfoldable pub bookingAnswer : Booking → Bool → Bool → Outcome (Unit {0})
-bookingAnswer b waits room = cond (hasLate b) (refused 4) (cond waits (refused 9) (cond room (gives tt) (refused 10)))
+bookingAnswer b waits room = cond (hasTimeOver b) (refused 4) (cond waits (refused 9) (cond room (gives tt) (refused 10)))
 
 -- a withdrawal: accepted, or 11. Does its guest wait?
 abbrev pub withdrawalAnswer : Bool → Outcome (Unit {0})

@@ -10,20 +10,19 @@ use lib.ListN.{length}
 use Rattle.base.specs.Floats as Floats
 use Rattle.base.specs.Refusals.{Outcome, refused, gives, guarded}
 use Rattle.base.specs.Lists.{any, All}
-use Rattle.queue.specs.Time.{late}
+use Rattle.queue.specs.Time.{timeOver}
 use Rattle.queue.specs.declared.QueueEntry.{QueueEntry}
-use Rattle.roster.specs.Roster.{Roster, ratingsCheck, deviationsCheck, rulesCheck}
+use Rattle.roster.specs.Roster.{Roster, ratingsCheck, deviationsCheck}
 use Rattle.matchmaker.specs.Quality.{MatchState, qualityOf}
 use Rattle.objective.specs.declared.score.MatchObjective.{MatchObjective}
-use Rattle.constraint.specs.Refusing.{constraintsOver, broughtPairsCheck}
 use Rattle.seating.specs.declared.TeamComposition.{TeamComposition}
 use Rattle.seating.specs.Seating.{Sheets, HandedOut, sizesOver, areShort, seats, handedOut}
-use Rattle.search.specs.Greedy.{greedyMatches}
-use Rattle.search.specs.Beam.{beaming, beamMatches}
+use Rattle.greedy.specs.Greedy.{greedyMatches}
+use Rattle.beam.specs.Beam.{beaming, beamMatches}
 use Rattle.candidate.specs.Exhaustive.{tooWide}
-use Rattle.choice.specs.Full.{Terms, Selection, chosen, scoreIn, passing}
+use Rattle.choice.specs.Full.{Terms, Selection, termsCheck, chosen, scoreIn, passing}
 use Rattle.hall.specs.declared.Booking.{Booking}
-use Rattle.hall.specs.Hall.{HallState, awaiting, hasLate, withoutGuests, entryOf, isOver}
+use Rattle.hall.specs.Hall.{HallState, awaiting, hasTimeOver, withoutGuests, entryOf, isOver}
 
 -- what a round brings beside its sheets
 pub data Round : Type 0 where
@@ -45,17 +44,11 @@ sizesOf (greedy s r) = s
 sizesOf (beam s width o r) = s
 sizesOf (full s t) = s
 
--- refusal 1, beside the hall's and the sizes'
-abbrev pub overIn : Round → Bool
-overIn (greedy s r) = sizesOver s
-overIn (beam s width o r) = sizesOver s || ltb 32 width
-overIn (full s t) = sizesOver s || (constraintsOver (t .constraints) || ltb 8 (t .count))
-
--- refusals 1 and 2 of the columns and the region pairs
-abbrev pub rosterIn : Round → Outcome (Unit {0})
-rosterIn (greedy s r) = ratingsCheck r
-rosterIn (beam s width o r) = deviationsCheck r
-rosterIn (full s t) = guarded (rulesCheck (t .roster)) (broughtPairsCheck (t .constraints))
+-- refusals 1 and 2 of what a round brings, beside the hall's 1
+abbrev pub broughtCheck : Round → Outcome (Unit {0})
+broughtCheck (greedy s r) = cond (sizesOver s) (refused 1) (ratingsCheck r)
+broughtCheck (beam s width o r) = cond (sizesOver s || ltb 32 width) (refused 1) (deviationsCheck r)
+broughtCheck (full s t) = termsCheck (t .roster) (t .constraints) (t .count) s
 
 -- refusal 6
 abbrev pub tooWideIn : Round → List QueueEntry → Bool
@@ -76,10 +69,9 @@ entriesFor c ws = map entryOf (eligible c ws)
 -- 1, 2, 3, 4 and 6, in that order; 4 looks at all who wait
 abbrev pub roundCheck : RoundCall → List Booking → Outcome (Unit {0})
 roundCheck c ws =
-    cond (overIn (c .round)) (refused 1)
-    (guarded (rosterIn (c .round))
+    guarded (broughtCheck (c .round))
     (cond (areShort (length (c .sheets .players)) (length (c .sheets .qualities))) (refused 3)
-    (cond (late (c .clock) || any hasLate ws) (refused 4) (cond (tooWideIn (c .round) (entriesFor c ws)) (refused 6) (gives tt)))))
+    (cond (timeOver (c .clock) || any hasTimeOver ws) (refused 4) (cond (tooWideIn (c .round) (entriesFor c ws)) (refused 6) (gives tt))))
 
 -- ---- what a round finds
 
@@ -137,13 +129,13 @@ triedIn (refused n) = 0
 triedIn (gives f) = f .tried
 
 -- "Seated guests leave by remove_batch", with every booking of theirs. A refused round changes nothing.
-abbrev pub leaving : HallState → Outcome Found → HallState
-leaving h (refused n) = h
-leaving h (gives f) = record { waiting = awaiting (withoutGuests (seats (f .matches)) (h .waiting .bookings)); log = h .log }
+abbrev pub departing : HallState → Outcome Found → HallState
+departing h (refused n) = h
+departing h (gives f) = record { waiting = awaiting (withoutGuests (seats (f .matches)) (h .waiting .bookings)); log = h .log }
 
 -- the turn of a round that found this
 abbrev pub turnFrom : HallState → RoundCall → Outcome Found → RoundTurn
-turnFrom h c o = record { hall = leaving h o; handed = handedOut (qualityBy (c .round)) (matchesIn o) (c .sheets); tried = triedIn o }
+turnFrom h c o = record { hall = departing h o; handed = handedOut (qualityBy (c .round)) (matchesIn o) (c .sheets); tried = triedIn o }
 
 abbrev pub roundFound : HallState → RoundCall → Outcome Found
 roundFound h c = cond (isOver h) (refused 1) (findings c (h .waiting .bookings))

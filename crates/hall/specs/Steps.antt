@@ -1,21 +1,20 @@
 -- What the code computes on its way.
 use Prim.Native.Nat.{ℕ, _≤_}
 use mathlib.Core.Path.{_≡_}
-use mathlib.Core.Bool.{cond, _||_}
+use mathlib.Core.Bool.{cond}
 use mathlib.Core.List.{List}
 use mathlib.Core.Option.{Option, none, some}
-use lib.Dec.{ltb}
 use lib.Ieee.{Float}
 use lib.ListN.{length, take}
 use Rattle.base.specs.Refusals.{Outcome, refused, gives, guarded}
 use Rattle.base.specs.Numbers.{outcomeIn}
-use Rattle.queue.specs.Time.{late}
-use Rattle.roster.specs.Roster.{Roster, rulesCheck}
+use Rattle.queue.specs.Time.{timeOver}
+use Rattle.roster.specs.Roster.{Roster}
 use Rattle.matchmaker.specs.Quality.{MatchState}
 use Rattle.constraint.specs.declared.Constraints.{Constraints}
-use Rattle.constraint.specs.Refusing.{constraintsOver, broughtPairsCheck}
+use Rattle.choice.specs.Full.{termsCheck}
 use Rattle.seating.specs.declared.TeamComposition.{TeamComposition}
-use Rattle.seating.specs.Seating.{Sheets, sizesOver, areShort, seats, handedOut}
+use Rattle.seating.specs.Seating.{Sheets, areShort, seats, handedOut}
 use Rattle.hall.specs.Hall.{Content, same, contentIn, answerIn}
 use Rattle.hall.specs.Rounds.{RoundCall, Found, findings, qualityBy, matchesIn, matchesFrom, triedIn}
 use Rattle.hall.specs.declared.Booking.{Booking}
@@ -42,9 +41,7 @@ noteWith c n = record { player = c .player; kind = c .kind; answer = n }
 -- refusals 1, 2 and 3 of a full round, and 4 of its clock; of the sheets only the lengths count
 abbrev pub fullCheck : TeamComposition → Constraints → ℕ → Roster → ℕ → ℕ → ℕ → Outcome Unit
 fullCheck s c count r clock players qualities =
-    cond (sizesOver s || (constraintsOver c || ltb 8 count)) (refused 1)
-    (guarded (rulesCheck r)
-    (guarded (broughtPairsCheck c) (cond (areShort players qualities) (refused 3) (cond (late clock) (refused 4) (gives tt)))))
+    guarded (termsCheck r c count s) (cond (areShort players qualities) (refused 3) (cond (timeOver clock) (refused 4) (gives tt)))
 
 -- the numbers of a round that found this, beside its sheets as it left them
 pub record HandedNumbers (quality : MatchState → Float) (sheets : Sheets) (o : Outcome Found) (r : Handed) (players : List ℕ) (qualities : List Float) : Type 0 where

@@ -58,7 +58,7 @@ pub fn is_over(waiting: usize, noted: usize) -> bool
 pub fn booking_answer(booking: Booking, waits: bool, waiting: usize) -> u8
     ensures { λ r. ⌜ outcomeIn r tt ≡ bookingAnswer booking waits (ltb waiting 64) ⌝ }
 {
-    if queue::time::is_late(booking.joined) {
+    if queue::time::is_over(booking.joined) {
         return 4;
     }
     if waits {

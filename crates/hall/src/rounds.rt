@@ -14,13 +14,13 @@ use crate::Booking;
 use crate::waiting;
 use base::Checked;
 use base::Refusal;
+use beam::BeamSearch;
 use choice::Choice;
 use choice::Verdict;
 use constraint::Constraints;
+use greedy::GreedySearch;
 use objective::score::MatchObjective;
 use objective::soft::SoftObjective;
-use search::beam::BeamSearch;
-use search::greedy::GreedySearch;
 use seating::Formed;
 use seating::TeamComposition;
 
@@ -60,7 +60,7 @@ pub fn greedy_handed(
     ensures { λ r. ⌜ FoundNumbers (calling (greedy sizes (ofRatings (now (ids .entry)) (now (ratings .entry)))) clock (now (players .entry)) (now (qualities .entry))) (take n bookings) r (now (players .exit)) (now (qualities .exit)) ⌝ }
 {
     let queue = waiting::eligible(bookings, n);
-    if let Checked::Refused(refusal) = search::greedy::check(
+    if let Checked::Refused(refusal) = greedy::check(
         queue,
         sizes,
         ids,
@@ -70,7 +70,7 @@ pub fn greedy_handed(
     ) {
         return refuses(refusal);
     }
-    if queue::time::is_late(clock) {
+    if queue::time::is_over(clock) {
         return refuses(Refusal::Clock);
     }
     let each = sizes.a + sizes.b;
@@ -151,25 +151,22 @@ fn check_full(
 ) -> Checked
     ensures { λ r. ⌜ checkedOf r ≡ fullCheck sizes constraints count (ofRules (now (ids .entry)) (now (ratings .entry)) (now (parties .entry)) (now (roles .entry)) (now (regions .entry))) clock players qualities ⌝ }
 {
-    if sizes.is_over() {
-        return Checked::Refused(Refusal::OverLimit);
-    }
-    if constraints.is_over() {
-        return Checked::Refused(Refusal::OverLimit);
-    }
-    if 8 < count {
-        return Checked::Refused(Refusal::OverLimit);
-    }
-    if let Checked::Refused(refusal) = roster::check_rules(ids, ratings, parties, roles, regions) {
-        return Checked::Refused(refusal);
-    }
-    if let Checked::Refused(refusal) = constraints.check_pairs() {
+    if let Checked::Refused(refusal) = choice::check_terms(
+        sizes,
+        constraints,
+        count,
+        ids,
+        ratings,
+        parties,
+        roles,
+        regions,
+    ) {
         return Checked::Refused(refusal);
     }
     if seating::are_short(players, qualities) {
         return Checked::Refused(Refusal::ShortSheet);
     }
-    if queue::time::is_late(clock) {
+    if queue::time::is_over(clock) {
         return Checked::Refused(Refusal::Clock);
     }
     Checked::Passed

@@ -2,7 +2,7 @@
 ghost use mathlib.Core.Path.{_≡_};
 ghost use Rattle.queue.specs.Queue.{waitOf, waitRule, holding};
 ghost use Rattle.hall.specs.Hall.{hallOf, keyedRule, book};
-ghost use Rattle.lent.specs.Reading.{readable, opened, entryWait, followed, read};
+ghost use Rattle.lent.specs.Reading.{readable, beforeReading, entryWait, followed, read};
 ghost use Rattle.lent.specs.Lent.{lentTurn};
 use base::Refusal;
 use capi::halls::Keyed;
@@ -23,13 +23,13 @@ fn readable(count: usize) -> usize
 }
 
 // The answer before an entry is read.
-fn opened(len: usize, clock: u64) -> Wait
-    ensures { λ r. ⌜ waitOf r ≡ opened len clock ⌝ }
+fn before_reading(len: usize, clock: u64) -> Wait
+    ensures { λ r. ⌜ waitOf r ≡ beforeReading len clock ⌝ }
 {
     if 64 < len {
         return Wait::Refused(Refusal::OverLimit);
     }
-    if queue::time::is_late(clock) {
+    if queue::time::is_over(clock) {
         return Wait::Refused(Refusal::Clock);
     }
     Wait::Nobody
@@ -39,7 +39,7 @@ fn opened(len: usize, clock: u64) -> Wait
 fn entry_wait(entry: QueueEntry, player: u64, clock: u64) -> Wait
     ensures { λ r. ⌜ waitOf r ≡ entryWait player clock entry ⌝ }
 {
-    if queue::time::is_late(entry.joined) {
+    if queue::time::is_over(entry.joined) {
         return Wait::Refused(Refusal::Clock);
     }
     if entry.player == player {
@@ -75,7 +75,7 @@ pub fn waiting_time(queue: &[QueueEntry], player: u64, clock: u64) -> Wait
     ensures { λ r. ⌜ waitOf r ≡ waitRule (holding (now (queue .entry))) player clock ⌝ }
 {
     let n = readable(queue.len());
-    let mut wait = opened(queue.len(), clock);
+    let mut wait = before_reading(queue.len(), clock);
     let mut i: usize = 0;
     while i < n {
         wait = read(wait, queue[i], player, clock);

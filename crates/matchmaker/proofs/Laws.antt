@@ -1,21 +1,15 @@
 -- The laws of teams, of sums over teams, and of the answers of `match_quality`.
-use Prim.Native.Nat.{ℕ, max, _≤_, _<_}
+use Prim.Native.Nat.{ℕ, max}
 use mathlib.Core.Path.{_≡_, refl, sym, ap, _∙_}
 use mathlib.Core.Bool.{true, false}
 use mathlib.Core.List.{List, [], _∷_, _++_, foldl}
 use mathlib.Core.Option.{Option, none, some}
-use native.Mathlib.Omega.{arith}
-use lib.Dec.{eqb}
 use lib.IntN.{pos}
 use lib.Ieee.{Float, binary64, add, div, ofInt}
-use lib.ListN.{length, take, length-take}
-use lib.Seq.{take-all}
-use Rattle.base.specs.Lists.{seek, member}
-use Rattle.base.specs.Refusals.{Outcome, refused, gives, guarded, refusalNumber, checkedOf}
+use Rattle.base.specs.Refusals.{refused, gives, refusalNumber, checkedOf}
 use Rattle.base.specs.declared.Checked.{Checked}
 use Rattle.base.specs.declared.Checked.the-variants.{Passed, Refused}
 use Rattle.base.specs.declared.Refusal.{Refusal}
-use Rattle.base.proofs.Cases.{cases, never}
 use Rattle.base.proofs.Checks.{guard-refuses, guard-passes}
 use Rattle.base.proofs.Loops.{fold-append}
 use Rattle.roster.specs.Roster.{Roster, ratingsCheck}

@@ -1,16 +1,18 @@
 -- Everyone seated in one array, and what their rows say, found once for all.
-use Prim.Native.Nat.{ℕ, _+_, _-_, _≤_, _<_}
+use Prim.Native.Nat.{ℕ, _+_, _-_, _≤_, _<_, suc}
 use mathlib.Core.Path.{_≡_, refl, sym, ap, _∙_}
 use mathlib.Core.List.{List, [], _∷_, _++_, map, map-append, append-assoc, append-nil}
 use native.Mathlib.Nat.{add-zero}
 use native.Mathlib.Numerals.{add-one}
 use native.Mathlib.Omega.{arith}
 use lib.Ieee.{Float}
-use lib.ListN.{length, take, drop, getD, set, length-map, length-append}
-use lib.Seq.{length-take-le, take-take, take-all, take-suc, take-at, drop-at, take-append-add}
+use lib.ListN.{length, take, drop, getD, set, length-map, length-append, take-append-drop}
+use lib.Seq.{length-take-le, take-take, take-all, take-suc, take-at, drop-at, take-append-add, drop-cons, set-at, append-snoc}
 use Rattle.base.specs.Sheets.{laid}
+use Rattle.base.proofs.Sheets.{laid-none, laid-laid, length-laid}
 use Rattle.base.proofs.Arrays.{push, all-held, held-fits}
-use Rattle.roster.specs.Roster.{ofRatings, rowOf, valueAt, observe}
+use Rattle.roster.specs.Roster.{ofRatings, rowOf, observe}
+use Rattle.roster.specs.Rows.{valueAt}
 use Rattle.roster.proofs.Laws.{value-observed}
 use Rattle.matchmaker.specs.Quality.{observations, qualityBetween, qualityOf}
 use Rattle.matchmaker.specs.Steps.{rowsAverage, rowsQuality}
@@ -20,6 +22,15 @@ use Rattle.matchmaker.specs.Steps.{rowsAverage, rowsQuality}
 -- no place yet
 pub seat-start : (players : List ℕ) (at : ℕ) → take (at + 0) players ≡ take at players ++ []
 seat-start players at = rw (add-zero, append-nil)
+
+-- what is stored at a place is a row of one
+laid-one : (d : List ℕ) (k x : ℕ) → k < length d → set d k x ≡ laid d k (x ∷ [])
+unfolding laid
+laid-one d k x h =
+    ap (λ (l : List ℕ). set l k x) (sym (take-append-drop k d) ∙ ap (λ (l : List ℕ). take k d ++ l) (drop-cons d k 0 h))
+    ∙ set-at (take k d) (getD d k 0) (drop (suc k) d) x k (length-take-le k d (omega arith))
+    ∙ sym (append-snoc (take k d) x (drop (suc k) d))
+    ∙ ap (λ (n : ℕ). take k d ++ (x ∷ []) ++ drop n d) (sym (add-one k))
 
 module _ (players places : List ℕ) (at : ℕ) where
   -- one place more
@@ -43,6 +54,23 @@ module _ (players places : List ℕ) (at : ℕ) where
       ∙ ap (λ (m : ℕ). take (m + n) (take at players ++ take i places)) (sym l)
       ∙ take-append-add (take at players) (take i places) n
       ∙ ap (λ (r : List ℕ). take at players ++ r) (take-take n i places (omega arith) ∙ all-held len places refl)
+
+  -- and the array as it was elsewhere: no place yet, one more, all
+  pub seat-none : laid players at (take 0 places) ≡ players
+  seat-none = laid-none players at
+
+  pub seat-more : (out : List ℕ) (i : ℕ) → i < length places → at + i < length players → out ≡ laid players at (take i places) → set out (at + i) (getD places i 0) ≡ laid players at (take (i + 1) places)
+  seat-more out i h room inv =
+      let l : length (take i places) ≡ i = length-take-le i places (omega arith) in
+      let long : length out ≡ length players = rw inv (length-laid players at (take i places) (omega (arith, l))) in
+      laid-one out (at + i) (getD places i 0) (omega arith)
+      ∙ ap (λ (d : List ℕ). laid d (at + i) (getD places i 0 ∷ [])) inv
+      ∙ ap (λ (n : ℕ). laid (laid players at (take i places)) (at + n) (getD places i 0 ∷ [])) (sym l)
+      ∙ laid-laid players at (take i places) (getD places i 0 ∷ []) (omega (arith, l))
+      ∙ ap (laid players at) (sym (take-suc places i 0 h) ∙ ap (λ (n : ℕ). take n places) (sym (add-one i)))
+
+  pub seat-all : (out : List ℕ) (i : ℕ) → i ≡ length places → out ≡ laid players at (take i places) → out ≡ laid players at places
+  seat-all out i e inv = inv ∙ ap (laid players at) (take-all i places (omega arith))
 
 -- team A at the front and team B behind it are everyone seated
 pub seated-both : (a b z x r : List ℕ) {n : ℕ} → n ≡ length a → take (0 + length a) x ≡ take 0 z ++ a → take (n + length b) r ≡ take n x ++ b → take (length (a ++ b)) r ≡ a ++ b

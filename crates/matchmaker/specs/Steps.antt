@@ -5,7 +5,7 @@ use mathlib.Core.List.{List}
 use mathlib.Core.Option.{Option, none, some}
 use lib.Ieee.{Float}
 use lib.ListN.{length}
-use Rattle.roster.specs.Roster.{valueAt}
+use Rattle.roster.specs.Rows.{valueAt}
 use Rattle.matchmaker.specs.Quality.{observations, sumOf, averageFrom, qualityBetween}
 
 -- b with one more observation, if there is one

@@ -1,20 +1,21 @@
 // Teams, proposed matches and match quality (matchmaker.rs).
 ghost use mathlib.Core.Path.{_≡_};
-ghost use mathlib.Core.Bool.{_||_};
 ghost use mathlib.Core.List.{foldl, _++_};
 ghost use Prim.Native.Nat.{_+_, _≤_};
-ghost use lib.ListN.{length, take, drop};
+ghost use lib.ListN.{length, take, drop, replicate};
 ghost use lib.Ieee as Ieee;
 ghost use lib.Ieee.{binary64};
 ghost use Rattle.base.specs.Lists.{member};
-ghost use Rattle.roster.specs.Roster.{ofRatings, observe, valueAt, observedOf};
+ghost use Rattle.base.specs.Sheets.{laid};
+ghost use Rattle.roster.specs.Roster.{ofRatings, observe, observedOf};
+ghost use Rattle.roster.specs.Rows.{valueAt};
 ghost use Rattle.matchmaker.specs.Quality.{teamOf, matchOf, overfull, seated, observations, averageFrom, averageOf, qualityBetween, qualityOf, QualityPromise};
 ghost use Rattle.matchmaker.specs.Steps.{absorb, rowsAverage, rowsQuality};
 use base::Checked;
 use base::Refusal;
 use roster::Observed;
 
-// The first `len` players, in order.
+// The first `len` players, in order. What stands behind them is free.
 #[repr(C)]
 pub struct Team {
     pub players: [u64; 8],
@@ -27,7 +28,7 @@ pub struct ProposedMatch {
     pub b: Team,
 }
 
-// Everyone seated in one array, team A then B, and what stands behind them counts for nothing.
+// Everyone seated in one array, team A then B. What stands behind them is what team B's array has behind its length, and then team A's.
 pub struct Seated {
     pub players: [u64; 16],
 }
@@ -124,7 +125,7 @@ impl Team {
     // quicker.
     fn seat(self, players: [u64; 16], at: usize) -> [u64; 16]
         requires { ⌜ at ≤ 8 ⌝ }
-        ensures { λ r. ⌜ take (at + length (teamOf self .players)) r ≡ take at players ++ teamOf self .players ⌝ }
+        ensures { λ r. ⌜ (take (at + length (teamOf self .players)) r ≡ take at players ++ teamOf self .players) × (r ≡ laid players at (self .players)) ⌝ }
     {
         let places = self.players;
         let mut out = players;
@@ -212,6 +213,7 @@ impl ProposedMatch {
     // Everyone seated in one array, read once.
     pub fn seated_players(self) -> Seated
         ensures { λ r. ⌜ take (length (seated (matchOf self))) (r .players) ≡ seated (matchOf self) ⌝ }
+        ensures { λ r. ⌜ r .players ≡ laid (laid (replicate 16 0) 0 (self .a .players)) (length (teamOf (self .a) .players)) (self .b .players) ⌝ }
     {
         let a = self.a;
         let b = self.b;

@@ -15,8 +15,8 @@ use Rattle.base.specs.Refusals.{Outcome, refused, gives, guarded, refusalNumber
 use Rattle.base.specs.declared.Checked.{Checked}
 use Rattle.base.specs.declared.Checked.the-variants.{Passed, Refused}
 use Rattle.base.specs.declared.Refusal.{Refusal}
-use Rattle.queue.specs.Time.{late}
-use Rattle.queue.specs.Queue.{QueueState, isLate}
+use Rattle.queue.specs.Time.{timeOver}
+use Rattle.queue.specs.Queue.{QueueState, joinedOver}
 use Rattle.queue.specs.declared.QueueEntry.{QueueEntry}
 use Rattle.roster.specs.Roster.{Roster, ratingOf, deviationOf, ratingsCheck, deviationsCheck}
 use Rattle.matchmaker.specs.Quality.{MatchState, overfull, seated, observations, averageFrom, qualityOf}
@@ -104,17 +104,17 @@ module _ (o : MatchObjective) (r : Roster) (q : QueueState) (clock : ℕ) (m : M
       score-roster e = rw (a, b) (guard-refuses _ k e h)
 
       module _ (e : k ≡ Passed) where
-        -- a late clock: 4
-        pub score-clock : late clock ≡ true → refused 4 ≡ scoreRule o r q clock m
+        -- a clock above 2^53: 4
+        pub score-clock : timeOver clock ≡ true → refused 4 ≡ scoreRule o r q clock m
         score-clock t = rw (a, b) (passed k e h (rw t))
 
-        module _ (c : late clock ≡ false) where
-          -- a late joined time: 4
-          pub score-late : any isLate (q .entries) ≡ true → refused 4 ≡ scoreRule o r q clock m
-          score-late t = rw (a, b) (passed k e h (rw (c, t)))
+        module _ (c : timeOver clock ≡ false) where
+          -- a joined time above 2^53: 4
+          pub score-joined : any joinedOver (q .entries) ≡ true → refused 4 ≡ scoreRule o r q clock m
+          score-joined t = rw (a, b) (passed k e h (rw (c, t)))
 
           -- else the score
-          pub score-given : any isLate (q .entries) ≡ false → {s : Float} → s ≡ scoreOf o r (q .entries) clock m → gives s ≡ scoreRule o r q clock m
+          pub score-given : any joinedOver (q .entries) ≡ false → {s : Float} → s ≡ scoreOf o r (q .entries) clock m → gives s ≡ scoreRule o r q clock m
           score-given f s = rw (a, b) (passed k e h (rw (c, f, s)))
 
 module _ (r : Roster) (m : MatchState) (o : SoftObjective) where

@@ -10,11 +10,12 @@ use Rattle.base.specs.Floats.{zero}
 use Rattle.base.specs.Lists.{seek, any}
 use Rattle.base.proofs.Arrays.{take-map}
 use Rattle.base.proofs.Cases.{cases}
-use Rattle.queue.specs.Time.{late}
-use Rattle.queue.specs.Queue.{isLate}
+use Rattle.queue.specs.Time.{timeOver}
+use Rattle.queue.specs.Queue.{joinedOver}
 use Rattle.queue.specs.declared.QueueEntry.{QueueEntry}
-use Rattle.queue.proofs.Laws.{late-column}
-use Rattle.roster.specs.Roster.{ofDeviations, rowOf, valueAt, observe}
+use Rattle.queue.proofs.Laws.{over-column}
+use Rattle.roster.specs.Roster.{ofDeviations, rowOf, observe}
+use Rattle.roster.specs.Rows.{valueAt}
 use Rattle.matchmaker.specs.Quality.{MatchState, seated, observations, sumOf}
 use Rattle.matchmaker.specs.Steps.{rowsQuality}
 use Rattle.matchmaker.proofs.Rows.{observed-rows, quality-of-rows}
@@ -31,9 +32,9 @@ wait-by-columns clock [] p = refl
 wait-by-columns clock (e ∷ es) p = cases (eqb (e .player) p) (λ t. rw t) (λ f. rw f (wait-by-columns clock es p))
 
 module _ (es : List QueueEntry) (n : ℕ) where
-  -- of the first n, one is late where one of the first n joined times is
-  pub late-by-column : any late (take n (map (λ e. e .joined) es)) ≡ any isLate (take n es)
-  late-by-column = rw (take-map (λ (e : QueueEntry). e .joined) n es) (late-column (take n es))
+  -- of the first n, a joined time is above 2^53 where it is so in the column
+  pub over-by-column : any timeOver (take n (map (λ e. e .joined) es)) ≡ any joinedOver (take n es)
+  over-by-column = rw (take-map (λ (e : QueueEntry). e .joined) n es) (over-column (take n es))
 
   -- the first n places of the columns tell the waits of the first n
   pub waits-by-columns : (clock : ℕ) → columnWait clock (take n (map (λ e. e .player) es)) (take n (map (λ e. e .joined) es)) ≡ waitedSeconds clock (take n es)

@@ -4,7 +4,8 @@ ghost use mathlib.Core.List.{foldl};
 ghost use lib.ListN.{length, take, drop};
 ghost use Rattle.base.specs.Floats as Floats;
 ghost use Rattle.queue.specs.Queue.{queueOf};
-ghost use Rattle.roster.specs.Roster.{valueAt, ofDeviations};
+ghost use Rattle.roster.specs.Rows.{valueAt};
+ghost use Rattle.roster.specs.Roster.{ofDeviations};
 ghost use Rattle.matchmaker.specs.Quality.{matchOf, seated, observations, sumOf};
 ghost use Rattle.matchmaker.specs.Steps.{absorb, rowsQuality};
 ghost use Rattle.objective.specs.Score.{longer, scoreFrom, scoreGiven, scoreRule};
@@ -120,14 +121,14 @@ impl MatchObjective {
         if let Checked::Refused(refusal) = checked {
             return Score::Refused(refusal);
         }
-        if queue::time::is_late(clock) {
+        if queue::time::is_over(clock) {
             return Score::Refused(Refusal::Clock);
         }
         let columns = queue.columns();
         let waiting = columns.players;
         let joined = columns.joined;
         let end = queue.len;
-        if queue::time::are_late(&joined[..end]) {
+        if queue::time::any_over(&joined[..end]) {
             return Score::Refused(Refusal::Clock);
         }
         let wait = longest_wait(&players[..n], &waiting[..end], &joined[..end], clock);

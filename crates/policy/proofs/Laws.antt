@@ -1,9 +1,9 @@
 -- The two answers of a policy, by whether the constraints hold; and what a policy without constraints comes to.
-use mathlib.Core.Path.{_≡_, refl, sym, ap}
+use mathlib.Core.Path.{_≡_, refl}
 use mathlib.Core.Bool.{Bool, true, false, cond}
 use mathlib.Core.List.{List}
 use lib.Ieee.{Float, inf, binary64, div, neg, round, ofBits}
-use Rattle.base.specs.Refusals.{Outcome, gives}
+use Rattle.base.specs.Refusals.{gives}
 use Rattle.roster.specs.Roster.{Roster}
 use Rattle.matchmaker.specs.Quality.{MatchState}
 use Rattle.objective.specs.Soft.{softScoreOf}

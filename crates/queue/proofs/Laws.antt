@@ -1,23 +1,23 @@
 -- Laws of the queue over plain lists: one for each answer that a function gives, and what the definitions mean together.
 use Prim.Native.Nat.{ℕ, _+_, _≤_, _<_, min}
 use mathlib.Core.Path.{_≡_, refl, sym, ap, _∙_}
-use mathlib.Core.Bool.{Bool, true, false, not, cond, _||_}
+use mathlib.Core.Bool.{true, false, not}
 use mathlib.Core.List.{List, [], _∷_, _++_, map}
 use mathlib.Core.Option.{none, some}
-use native.Mathlib.Numerals.{add-one}
 use native.Mathlib.Omega.{arith}
 use borrow.Author.Tests.{lt-leb, eq-eqb, eqb-true}
 use lib.Dec.{eqb}
-use lib.ListN.{length, take, drop, getD, set, length-set, drop-of-length-le}
-use lib.Seq.{length-take-le, getD-take, drop-cons}
+use lib.ListN.{length, take, drop, getD, set, length-set}
+use lib.Seq.{length-take-le, getD-take}
 use Rattle.base.specs.Lists.{seek, any, keep, place, removeFirst, member, All}
 use Rattle.base.proofs.Cases.{cases, never}
 use Rattle.base.proofs.Arrays.{push, first-many, take-held}
 use Rattle.base.proofs.Members.{absent-head, absent-tail, absent-cons, stay-nobody, length-parted}
 use Rattle.base.proofs.Loops.{keep-end-of, shift-end, gap-closed, removed-none, seek-at, seek-none, seek-map}
 use Rattle.base.specs.Refusals.{refused, gives}
-use Rattle.queue.specs.Time.{late, since}
-use Rattle.queue.specs.Queue.{Enqueuing, enqueueRule, firstWait, QueueState, holding, noEntry, isOf, isOfAny, isLate, Removing, taking, Parting, parting, firstOf, withoutFirst, withoutAll, ofAll}
+use Rattle.queue.specs.Time.{timeOver, since}
+use Rattle.queue.specs.Queue.{Enqueuing, enqueueRule, firstWait, QueueState, holding, isOf, isOfAny, joinedOver, Removing, taking, Parting, parting, firstOf, withoutFirst, withoutAll, ofAll}
+use Rattle.queue.specs.Columns.{noEntry}
 use Rattle.queue.specs.declared.QueueEntry.{QueueEntry}
 
 -- ---- a queue of just what was written
@@ -93,39 +93,17 @@ nobody-removed q s n e = λ j. record { kept = q; removed = e j; answer = refuse
 -- ---- enqueue
 
 -- an entry stored behind the first n is appended to them
-pub appended : (es : List QueueEntry) (n : ℕ) (e : QueueEntry) → length es ≡ 64 → n < 64 → isLate e ≡ false → any isLate (take n es) ≡ false → _≡_ {A = Enqueuing} (record { queue = record { size = n + 1; entries = take (n + 1) (set es n e) }; answer = gives tt }) (enqueueRule (record { size = n; entries = take n es }) e)
+pub appended : (es : List QueueEntry) (n : ℕ) (e : QueueEntry) → length es ≡ 64 → n < 64 → joinedOver e ≡ false → any joinedOver (take n es) ≡ false → _≡_ {A = Enqueuing} (record { queue = record { size = n + 1; entries = take (n + 1) (set es n e) }; answer = gives tt }) (enqueueRule (record { size = n; entries = take n es }) e)
 appended es n e l h new old =
     let room : n + 1 ≤ length (set es n e) = simp length-set (omega arith) in
     let q = stands (set es n e) (n + 1) (take n es ++ (e ∷ [])) room (push es n e (omega arith)) in
     rw (lt-leb 64 n h, new, old) (λ j. record { queue = q j; answer = gives tt })
 
--- ---- a search that runs to the end
-
-later-found : (p q r : Bool) → (p || cond q true r) ≡ ((p || q) || r)
-later-found true q r = refl
-later-found false true r = refl
-later-found false false r = refl
-
-or-false : (p : Bool) → (p || false) ≡ p
-or-false true = refl
-or-false false = refl
-
-module _ {A : Type 0} (p : A → Bool) (found : Bool) (xs : List A) (i : ℕ) where
-  -- the element at i is looked at too
-  pub found-on : (d : A) → any p xs ≡ (found || any p (drop i xs)) → i < length xs → {t : Bool} → t ≡ p (getD xs i d) → any p xs ≡ ((found || t) || any p (drop (i + 1) xs))
-  unfolding seek
-  found-on d inv h e = inv ∙ rw (e, drop-cons xs i d h, add-one i) (later-found found (p (getD xs i d)) _)
-
-  -- no element is left
-  pub found-end : any p xs ≡ (found || any p (drop i xs)) → length xs ≤ i → found ≡ any p xs
-  unfolding seek
-  found-end inv h = sym (inv ∙ rw (drop-of-length-le xs h) (or-false found))
-
 -- ---- the joined times apart
 
--- an entry is late where its joined time is
-pub late-column : (es : List QueueEntry) → any late (map (λ e. e .joined) es) ≡ any isLate es
-late-column es = seek-map (λ (e : QueueEntry). e .joined) late (λ t. true) false es
+-- an entry's joined time is above 2^53 where that of the column is
+pub over-column : (es : List QueueEntry) → any timeOver (map (λ e. e .joined) es) ≡ any joinedOver es
+over-column es = seek-map (λ (e : QueueEntry). e .joined) timeOver (λ t. true) false es
 
 -- ---- what the definitions mean together
 

@@ -1,13 +1,12 @@
 // The waiting queue (queue.rs), by value: a queue goes in and the changed one comes out.
 ghost use mathlib.Core.Path.{_≡_};
-ghost use mathlib.Core.Bool.{_||_};
-ghost use mathlib.Core.List.{[], _∷_, _++_, map};
+ghost use mathlib.Core.List.{[], _++_, map};
 ghost use Prim.Native.Nat.{_+_, _≤_, _<_, min};
 ghost use lib.ListN.{take, drop};
 ghost use Rattle.base.specs.Refusals.{checkedOf};
 ghost use Rattle.base.specs.Lists.{any, place, member};
-ghost use Rattle.queue.specs.Queue.{queueOf, columnsOf, holding, isOf, isLate, queueCheck, enqueuedOf, enqueueRule, removedOf, taking, removeRule, batchOf, parting, batchRule, waitOf, waitedOf, firstWait, waitRule};
-ghost use mathlib.Core.Option.{Option};
+ghost use Rattle.queue.specs.Queue.{queueOf, holding, isOf, joinedOver, queueCheck, enqueuedOf, enqueueRule, removedOf, taking, removeRule, batchOf, parting, batchRule, waitOf, waitedOf, firstWait, waitRule};
+ghost use Rattle.queue.specs.Columns.{columnsOf};
 use base::Checked;
 use base::Refusal;
 
@@ -24,14 +23,14 @@ pub struct QueueEntry {
     pub role: u32,
 }
 
-// The first `len` entries wait, in this order.
+// The first `len` entries wait, in this order. What stands behind them is free.
 #[repr(C)]
 pub struct Queue {
     pub entries: [QueueEntry; 64],
     pub len: usize,
 }
 
-// The queue with the entry, or the queue as it was and the refusal.
+// The queue with the entry, or the refusal and the queue as it was: the length that it stated and what that holds.
 pub struct Enqueued {
     pub queue: Queue,
     pub answer: Checked,
@@ -90,15 +89,15 @@ fn held(len: usize) -> usize
     len
 }
 
-// Is a joined time late among the first n entries?
-fn any_late(entries: [QueueEntry; 64], n: usize) -> bool
+// Is a joined time above 2^53 among the first n entries?
+fn any_joined_over(entries: [QueueEntry; 64], n: usize) -> bool
     requires { ⌜ n ≤ 64 ⌝ }
-    ensures { λ r. ⌜ r ≡ any isLate (take n entries) ⌝ }
+    ensures { λ r. ⌜ r ≡ any joinedOver (take n entries) ⌝ }
 {
     let mut i: usize = 0;
     while i < n {
         let e = entries[i];
-        if time::is_late(e.joined) {
+        if time::is_over(e.joined) {
             return true;
         }
         i += 1;
@@ -181,7 +180,7 @@ impl Queue {
             return Checked::Refused(Refusal::OverLimit);
         }
         let entries = self.entries;
-        if any_late(entries, n) {
+        if any_joined_over(entries, n) {
             return Checked::Refused(Refusal::Clock);
         }
         Checked::Passed
@@ -220,12 +219,12 @@ impl Queue {
         columns
     }
 
-    // Is a joined time late? Whatever length is stated.
-    pub fn has_late(self) -> bool
-        ensures { λ r. ⌜ r ≡ any isLate (queueOf self .entries) ⌝ }
+    // Is a joined time above 2^53? Whatever length is stated.
+    pub fn has_joined_over(self) -> bool
+        ensures { λ r. ⌜ r ≡ any joinedOver (queueOf self .entries) ⌝ }
     {
         let entries = self.entries;
-        any_late(entries, held(self.len))
+        any_joined_over(entries, held(self.len))
     }
 
     // The wait of the player's first entry, and nothing asked of the times.
@@ -254,13 +253,13 @@ impl Queue {
             };
         }
         let entries = self.entries;
-        if time::is_late(entry.joined) {
+        if time::is_over(entry.joined) {
             return Enqueued {
                 queue: self,
                 answer: Checked::Refused(Refusal::Clock),
             };
         }
-        if any_late(entries, n) {
+        if any_joined_over(entries, n) {
             return Enqueued {
                 queue: self,
                 answer: Checked::Refused(Refusal::Clock),
@@ -310,7 +309,7 @@ impl Queue {
             };
         }
         let entries = self.entries;
-        if any_late(entries, n) {
+        if any_joined_over(entries, n) {
             return Removed {
                 queue: self,
                 taken: Taken::Refused(Refusal::Clock),
@@ -368,7 +367,7 @@ impl Queue {
             };
         }
         let entries = self.entries;
-        if any_late(entries, n) {
+        if any_joined_over(entries, n) {
             return Batch {
                 kept: self,
                 removed: Queue::empty(),
@@ -385,10 +384,10 @@ impl Queue {
         if 64 < self.len {
             return Wait::Refused(Refusal::OverLimit);
         }
-        if time::is_late(clock) {
+        if time::is_over(clock) {
             return Wait::Refused(Refusal::Clock);
         }
-        if self.has_late() {
+        if self.has_joined_over() {
             return Wait::Refused(Refusal::Clock);
         }
         match self.first_wait(player, clock) {

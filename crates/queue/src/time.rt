@@ -1,7 +1,7 @@
 // Times in nanoseconds (time.rs).
 ghost use mathlib.Core.Path.{_≡_};
 ghost use Rattle.base.specs.Lists.{any};
-ghost use Rattle.queue.specs.Time.{late, since, secondsOf, durationOf, durationRule, secondsGiven, secondsRule};
+ghost use Rattle.queue.specs.Time.{timeOver, since, secondsOf, durationOf, durationRule, secondsGiven, secondsRule};
 use base::Refusal;
 
 pub enum Duration {
@@ -15,20 +15,20 @@ pub enum Seconds {
 }
 
 // Is this time above 2^53 ns?
-pub fn is_late(t: u64) -> bool
-    ensures { λ r. ⌜ r ≡ late t ⌝ }
+pub fn is_over(t: u64) -> bool
+    ensures { λ r. ⌜ r ≡ timeOver t ⌝ }
 {
     9007199254740992 < t
 }
 
-// Is one of these times late? It runs to the end, since that is the quicker.
-pub fn are_late(times: &[u64]) -> bool
-    ensures { λ r. ⌜ r ≡ any late (now (times .entry)) ⌝ }
+// Is one of these times above 2^53? It runs to the end, since that is the quicker.
+pub fn any_over(times: &[u64]) -> bool
+    ensures { λ r. ⌜ r ≡ any timeOver (now (times .entry)) ⌝ }
 {
     let mut found = false;
     let mut i: usize = 0;
     while i < times.len() {
-        found = found | is_late(times[i]);
+        found = found | is_over(times[i]);
         i += 1;
     }
     found
@@ -51,24 +51,24 @@ pub fn in_seconds(nanos: u64) -> f64
     std::num::nearest_u64_to_f64(nanos) / 1000000000.0
 }
 
-// Refuses with 4 where a time is late.
+// Refuses with 4 where a time is above 2^53.
 pub fn duration_since(later: u64, earlier: u64) -> Duration
     ensures { λ r. ⌜ durationOf r ≡ durationRule later earlier ⌝ }
 {
-    if is_late(later) {
+    if is_over(later) {
         return Duration::Refused(Refusal::Clock);
     }
-    if is_late(earlier) {
+    if is_over(earlier) {
         return Duration::Refused(Refusal::Clock);
     }
     Duration::Of(elapsed(later, earlier))
 }
 
-// Refuses with 4 where the time is late.
+// Refuses with 4 where the time is above 2^53.
 pub fn as_secs_f64(nanos: u64) -> Seconds
     ensures { λ r. ⌜ secondsGiven r ≡ secondsRule nanos ⌝ }
 {
-    if is_late(nanos) {
+    if is_over(nanos) {
         return Seconds::Refused(Refusal::Clock);
     }
     Seconds::Of(in_seconds(nanos))

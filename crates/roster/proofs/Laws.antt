@@ -7,7 +7,7 @@ use mathlib.Core.Option.{none, some}
 use native.Mathlib.Numerals.{add-one}
 use native.Mathlib.Nat.{le-of-suc-le-suc, not-suc-le-zero}
 use native.Mathlib.Omega.{arith}
-use borrow.Author.Tests.{lt-ltb, le-ltb, ltb-true, eq-eqb, ne-eqb, eqb-true}
+use borrow.Author.Tests.{lt-ltb, le-ltb, ltb-true, ltb-false, eq-eqb, ne-eqb, eqb-true}
 use lib.Dec.{eqb, ltb}
 use lib.ListN.{length, take, drop, getD, set, length-map, length-take, drop-of-length-le, List·getD-map}
 use lib.Seq.{drop-cons, take-all}
@@ -21,7 +21,9 @@ use Rattle.base.proofs.Cases.{cases, never}
 use Rattle.base.proofs.Arrays.{all-held}
 use Rattle.base.proofs.Sheets.{copy-on}
 use Rattle.roster.specs.Ascending.{ascendsFrom, ascends}
-use Rattle.roster.specs.Roster.{tooLong, isRegion, columnsCheck, rowOf, foundRows, valueAt, observe}
+use Rattle.roster.specs.Roster.{tooLong, isRegion, columnsCheck, rowOf, observe}
+use Rattle.roster.specs.Rows.{foundRows, valueAt}
+use Rattle.roster.specs.Steps.{lengthsCheck}
 
 -- ---- ascending ids
 
@@ -97,9 +99,9 @@ only-row p (id ∷ ids) (suc i) d h e =
 
 -- ---- rows onto a sheet
 
-module _ (f : ℕ → ℕ) (players sheet : List ℕ) (i : ℕ) where
+module _ {B : Type 0} (f : ℕ → B) (players : List ℕ) (sheet : List B) (i : ℕ) where
   -- one player's row more
-  pub rows-on : {row : ℕ} → i < length players → i < length sheet → row ≡ f (getD players i 0) → set (take i (map f players) ++ drop i sheet) i row ≡ take (i + 1) (map f players) ++ drop (i + 1) sheet
+  pub rows-on : {row : B} → i < length players → i < length sheet → row ≡ f (getD players i 0) → set (take i (map f players) ++ drop i sheet) i row ≡ take (i + 1) (map f players) ++ drop (i + 1) sheet
   rows-on h k e =
       rw (e, ← List·getD-map f players i 0)
       (copy-on (map f players) sheet (f 0) i (rw (length-map players f) h) k)
@@ -110,7 +112,7 @@ module _ (f : ℕ → ℕ) (players sheet : List ℕ) (i : ℕ) where
   rows-end e =
       let w : i ≡ length (take (length sheet) (map f players)) = omega (arith, e, length-take (length sheet) (map f players), length-map players f) in
       let z : i ≡ 0 + length (take (length sheet) (map f players)) = omega arith in
-      ap (λ (l : List ℕ). l ++ drop i sheet) (all-held (length sheet) (map f players) w)
+      ap (λ (l : List B). l ++ drop i sheet) (all-held (length sheet) (map f players) w)
       ∙ ap (λ (n : ℕ). take (length sheet) (map f players) ++ drop n sheet) z
 
 -- what comes of a sheet behind a check
@@ -258,37 +260,54 @@ module _ (rising : Bool) (x : ℕ) (xs : List ℕ) (i : ℕ) (inv : ascends xs �
 pub five-at-most : (ls : List ℕ) (count n : ℕ) → length ls ≡ 5 → 5 < count → n ≡ 5 → take n ls ≡ take count ls
 five-at-most ls count n l h e = take-all n ls (omega arith) ∙ sym (take-all count ls (omega arith))
 
--- the check where no regions are taken
-module _ (ids ls : List ℕ) where
-  -- over 128 ids: 1
-  pub long-ids : 128 < length ids → refused 1 ≡ columnsCheck ids ls []
+-- the check of so many rows and of the other columns' lengths
+module _ (rows : ℕ) (ls : List ℕ) where
+  -- over 128 rows: 1
+  pub long-ids : 128 < rows → refused 1 ≡ lengthsCheck rows ls
   unfolding seek
-  long-ids h = rw (lt-ltb 128 (length ids) h)
+  long-ids h = rw (lt-ltb 128 rows h)
 
   -- over 128 in another column: 1
-  pub long-column : length ids ≤ 128 → any tooLong ls ≡ true → refused 1 ≡ columnsCheck ids ls []
+  pub long-column : rows ≤ 128 → any tooLong ls ≡ true → refused 1 ≡ lengthsCheck rows ls
   unfolding seek
-  long-column h o = rw (le-ltb 128 (length ids) h, o)
+  long-column h o = rw (le-ltb 128 rows h, o)
 
-  module _ (h : length ids ≤ 128) (o : any tooLong ls ≡ false) where
+  module _ (h : rows ≤ 128) (o : any tooLong ls ≡ false) where
     -- a column that is not as long as the ids: 2
-    pub uneven : every (λ n. eqb n (length ids)) ls ≡ false → refused 2 ≡ columnsCheck ids ls []
+    pub uneven : every (λ n. eqb n rows) ls ≡ false → refused 2 ≡ lengthsCheck rows ls
     unfolding seek
-    uneven e = rw (le-ltb 128 (length ids) h, o, e)
-
-    -- an id that stands twice: 2
-    pub twice : every (λ n. eqb n (length ids)) ls ≡ true → distinct ids ≡ false → refused 2 ≡ columnsCheck ids ls []
-    unfolding seek
-    twice e d = rw (le-ltb 128 (length ids) h, o, e, d)
+    uneven e = rw (le-ltb 128 rows h, o, e)
 
     -- none of these: it passes
-    pub passes : every (λ n. eqb n (length ids)) ls ≡ true → distinct ids ≡ true → gives tt ≡ columnsCheck ids ls []
+    pub even : every (λ n. eqb n rows) ls ≡ true → gives tt ≡ lengthsCheck rows ls
     unfolding seek
-    passes e d = rw (le-ltb 128 (length ids) h, o, e, d)
+    even e = rw (le-ltb 128 rows h, o, e)
 
 -- the tests' order over their answers: too long, even, all different, all regions
 abbrev verdict : Bool → Bool → Bool → Bool → Outcome Unit
 verdict o e d r = cond o (refused 1) (cond (e && (d && r)) (gives tt) (refused 2))
+
+-- the same of the lengths alone
+abbrev verdict-of-lengths : Bool → Bool → Outcome Unit
+verdict-of-lengths o e = cond o (refused 1) (cond e (gives tt) (refused 2))
+
+-- what is refused for the lengths is refused so whatever the ids are
+lengths-refused : (o e d r : Bool) (k : ℕ) → refused k ≡ verdict-of-lengths o e → refused k ≡ verdict o e d r
+lengths-refused true e d r k h = h
+lengths-refused false true d r k h = never cc
+lengths-refused false false d r k h = h
+
+-- what passes for the lengths is left to the ids where no regions are taken
+lengths-passed : (o e d : Bool) → gives tt ≡ verdict-of-lengths o e → cond d (gives tt) (refused 2) ≡ verdict o e d true
+lengths-passed true e d h = never cc
+lengths-passed false true true h = refl
+lengths-passed false true false h = refl
+lengths-passed false false d h = never cc
+
+-- and no column is too long
+lengths-short : (o e : Bool) → gives tt ≡ verdict-of-lengths o e → o ≡ false
+lengths-short true e h = never cc
+lengths-short false e h = refl
 
 -- what is refused where all regions are good is refused so whatever they are
 verdict-refused : (o e d r : Bool) (k : ℕ) → refused k ≡ verdict o e d true → refused k ≡ verdict o e d r
@@ -322,6 +341,28 @@ pub even-first : (n l : ℕ) (ls : List ℕ) → every (λ k. eqb k n) (l ∷ ls
 unfolding seek
 even-first n l ls h =
     cases (eqb l n) (λ t. (eqb-true l n t, rw t at h)) (λ f. never (let z : false ≡ true = rw f at h in cc))
+
+-- what comes of the check of the lengths
+module _ (ids ls : List ℕ) (k : Checked) (h : checkedOf k ≡ lengthsCheck (length ids) ls) where
+  -- it refuses: so does the whole check, by the same number
+  pub refused-by-length : {x : Refusal} → k ≡ Refused x → checkedOf k ≡ columnsCheck ids ls []
+  unfolding seek
+  refused-by-length {x} e =
+      rw e
+      (lengths-refused (any tooLong (length ids ∷ ls)) (every (λ n. eqb n (length ids)) ls) (distinct ids) true (refusalNumber x) (rw e at h))
+
+  -- it passes: the ids decide
+  pub ids-decide : k ≡ Passed → {t : Bool} → distinct ids ≡ t → cond t (gives tt) (refused 2) ≡ columnsCheck ids ls []
+  unfolding seek
+  ids-decide e f =
+      rw (← f) (lengths-passed (any tooLong (length ids ∷ ls)) (every (λ n. eqb n (length ids)) ls) (distinct ids) (rw e at h))
+
+  -- it passes: there are 128 ids at most
+  pub ids-few : k ≡ Passed → length ids ≤ 128
+  unfolding seek
+  ids-few e =
+      let o : any tooLong (length ids ∷ ls) ≡ false = lengths-short (any tooLong (length ids ∷ ls)) (every (λ n. eqb n (length ids)) ls) (rw e at h) in
+      cases (ltb 128 (length ids)) (λ t. never (let z : true ≡ false = rw t at o in cc)) (λ f. ltb-false 128 (length ids) f)
 
 module _ (ids ls codes : List ℕ) where
   -- a roster that passes its check has columns as long as the ids

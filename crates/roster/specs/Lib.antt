@@ -1,2 +1,4 @@
 pub mod Roster
+pub mod Rows
 pub mod Ascending
+pub mod Steps

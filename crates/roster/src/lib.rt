@@ -1,22 +1,54 @@
 // The roster, which stands for the Rust's World: columns that the caller lends.
 ghost use mathlib.Core.Path.{_≡_};
-ghost use mathlib.Core.Bool.{_&&_, true};
-ghost use mathlib.Core.List.{[], _∷_, map};
+ghost use mathlib.Core.Bool.{true};
+ghost use mathlib.Core.List.{[], map};
 ghost use Prim.Native.Nat.{_≤_, _+_, _*_};
 ghost use lib.Dec.{eqb};
 ghost use lib.ListN.{length, take, drop};
 ghost use Rattle.base.specs.Refusals.{checkedOf};
-ghost use Rattle.base.specs.Lists.{any, every, member, distinct};
+ghost use mathlib.Core.Option.{Option·getD};
+ghost use Rattle.base.specs.Floats as Floats;
+ghost use Rattle.base.specs.Lists.{any, every, member, distinct, isSome};
 ghost use Rattle.base.specs.Sheets.{laid};
 ghost use Rattle.roster.specs.Ascending.{ascends};
-ghost use Rattle.roster.specs.Roster.{ofRatings, ofDeviations, ofParties, ofRoles, ofRegions, ofRules, partyOf, roleOf, regionOf, rulesCheck, tooLong, isRegion, columnsCheck, ratingsCheck, deviationsCheck, rosterCheck, rowOf, foundRows, valueAt, observe, observedOf};
+ghost use Rattle.roster.specs.Roster.{ofRatings, ofDeviations, ofParties, ofRoles, ofRegions, ofRules, partyOf, roleOf, regionOf, rulesCheck, tooLong, isRegion, columnsCheck, ratingsCheck, deviationsCheck, rosterCheck, rowOf, observe, observedOf};
+ghost use Rattle.roster.specs.Rows.{foundRows, valueAt};
+ghost use Rattle.roster.specs.Steps.{lengthsCheck};
 use base::Checked;
 use base::Refusal;
+
+// Rows by their ids, in a table.
+mod table;
+
+// What a column says of many players.
+pub mod places;
 
 // What a column of floats says of a player.
 pub enum Observed {
     Of(f64),
     Nothing,
+}
+
+impl Observed {
+    // Does it say something?
+    pub fn is_something(self) -> bool
+        ensures { λ r. ⌜ r ≡ isSome (observedOf self) ⌝ }
+    {
+        match self {
+            Observed::Of(_) => true,
+            Observed::Nothing => false,
+        }
+    }
+
+    // What it says, or 0.0.
+    pub fn or_zero(self) -> f64
+        ensures { λ r. ⌜ r ≡ Option·getD (observedOf self) Floats.zero ⌝ }
+    {
+        match self {
+            Observed::Of(x) => x,
+            Observed::Nothing => 0.0,
+        }
+    }
 }
 
 // ---- are the ids all different?
@@ -69,12 +101,39 @@ fn ascend(ids: &[u64]) -> bool
     rising
 }
 
-// Ascending ids differ, and that takes one pass; others are held against each other.
+// Do the first ids rise? Few that are in no order do so.
+fn rise_at_first(ids: &[u64]) -> bool {
+    if ids.len() < 4 {
+        return true;
+    }
+    if ids[1] <= ids[0] {
+        return false;
+    }
+    if ids[2] <= ids[1] {
+        return false;
+    }
+    ids[2] < ids[3]
+}
+
+// Are the ids seen to differ by a glance and a pass, since they ascend?
+fn differ_by_order(ids: &[u64]) -> bool
+    ensures { λ r. ⌜ (r ≡ true → distinct (now (ids .entry)) ≡ true) ⌝ }
+{
+    if !rise_at_first(ids) {
+        return false;
+    }
+    ascend(ids)
+}
+
+// Ascending ids differ, and that takes one pass; others go into a table, or are held against each other where they are too many for it.
 pub fn all_different(ids: &[u64]) -> bool
     ensures { λ r. ⌜ r ≡ distinct (now (ids .entry)) ⌝ }
 {
-    if ascend(ids) {
+    if differ_by_order(ids) {
         return true;
+    }
+    if ids.len() <= 128 {
+        return table::differ(ids);
     }
     differ_pairwise(ids)
 }
@@ -125,23 +184,34 @@ pub fn are_regions(codes: &[u8]) -> bool
     true
 }
 
-// The checks of the ids and of the lengths of the first `count` other columns.
-pub fn check_columns(ids: &[u64], lengths: [usize; 5], count: usize) -> Checked
-    ensures { λ r. ⌜ checkedOf r ≡ columnsCheck (now (ids .entry)) (take count lengths) [] ⌝ }
+// The checks of the lengths of the ids and of the first `count` other columns.
+fn check_lengths(rows: usize, lengths: [usize; 5], count: usize) -> Checked
+    ensures { λ r. ⌜ checkedOf r ≡ lengthsCheck rows (take count lengths) ⌝ }
 {
     let mut n = count;
     if 5 < n {
         n = 5;
     }
-    if 128 < ids.len() {
+    if 128 < rows {
         return Checked::Refused(Refusal::OverLimit);
     }
     if any_too_long(lengths, n) {
         return Checked::Refused(Refusal::OverLimit);
     }
-    if !all_of_length(lengths, n, ids.len()) {
+    if !all_of_length(lengths, n, rows) {
         return Checked::Refused(Refusal::BadRoster);
     }
+    Checked::Passed
+}
+
+// The checks of the ids and of the lengths of the first `count` other columns.
+pub fn check_columns(ids: &[u64], lengths: [usize; 5], count: usize) -> Checked
+    ensures { λ r. ⌜ checkedOf r ≡ columnsCheck (now (ids .entry)) (take count lengths) [] ⌝ }
+{
+    let even = check_lengths(ids.len(), lengths, count);
+    let Checked::Passed = even else {
+        return even;
+    };
     if !all_different(ids) {
         return Checked::Refused(Refusal::BadRoster);
     }
@@ -284,7 +354,7 @@ fn step_past_row(ids: &[u64], row: usize, player: u64, step: usize) -> usize
 }
 
 // From a row on by up to three steps, one for each of the next three ids at this distance that is not above the player. All three are
-// read whatever the first says: there is nothing to foretell.
+// read whatever the first says, so that no branch has to be predicted.
 fn three_steps(ids: &[u64], from: usize, player: u64, step: usize) -> usize
     requires { ⌜ (from ≤ 128) × (step ≤ 64) ⌝ }
     ensures { λ r. ⌜ r ≤ from + 3 * step ⌝ }
@@ -354,11 +424,17 @@ pub fn checked_rows(
     ensures { λ r. ⌜ checkedOf r ≡ columnsCheck (now (ids .entry)) (take count lengths) [] ⌝ }
     ensures { λ r. ⌜ now (rows .exit) ≡ foundRows (columnsCheck (now (ids .entry)) (take count lengths) []) (now (ids .entry)) (now (players .entry)) (now (rows .entry)) ⌝ }
 {
-    let checked = check_columns(ids, lengths, count);
+    let checked = check_lengths(ids.len(), lengths, count);
     let Checked::Passed = checked else {
         return checked;
     };
-    write_rows(ids, players, rows);
+    if differ_by_order(ids) {
+        write_rows(ids, players, rows);
+        return Checked::Passed;
+    }
+    if !table::find(ids, players, rows) {
+        return Checked::Refused(Refusal::BadRoster);
+    }
     Checked::Passed
 }
 

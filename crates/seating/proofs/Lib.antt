@@ -1,3 +1,6 @@
 pub mod Laws
+pub mod TurnLaws
+pub mod Seated
 pub mod Handing
 pub mod Telling
+pub mod Drawn

@@ -6,10 +6,13 @@ ghost use lib.ListN.{length, take};
 ghost use Rattle.roster.specs.Roster.{ofRatings};
 ghost use Rattle.matchmaker.specs.Quality.{teamOf, matchOf, seated, qualityOf};
 ghost use Rattle.seating.specs.Seating.{sizesOver, areShort, lineup, matchesOf, seats};
-ghost use Rattle.seating.specs.Steps.{overlaid, joinedTo, RatedOut};
+ghost use Rattle.seating.specs.Steps.{heldSizes, overlaid, joinedTo, RatedOut};
 use base::Refusal;
 use matchmaker::ProposedMatch;
 use matchmaker::Team;
+
+// Whose turn it is to take a player.
+pub mod turns;
 
 // The sizes of the two teams.
 #[repr(C)]
@@ -18,7 +21,7 @@ pub struct TeamComposition {
     pub b: usize,
 }
 
-// The first `len` matches, in order.
+// The first `len` matches, in order. What stands behind them is free.
 pub struct Matches {
     pub items: [ProposedMatch; 64],
     pub len: usize,
@@ -39,6 +42,16 @@ impl TeamComposition {
             return true;
         }
         8 < self.b
+    }
+
+    // The sizes as far as a team goes: 8 at most, whatever is asked for.
+    fn held(self) -> TeamComposition
+        ensures { λ r. ⌜ r ≡ heldSizes self ⌝ }
+    {
+        TeamComposition {
+            a: at_most(self.a, 8),
+            b: at_most(self.b, 8),
+        }
     }
 }
 
@@ -81,7 +94,7 @@ pub fn nobody() -> ProposedMatch
 
 // ---- the writer
 
-fn at_most(n: usize, limit: usize) -> usize
+pub(crate) fn at_most(n: usize, limit: usize) -> usize
     ensures { λ r. ⌜ r ≡ min n limit ⌝ }
 {
     if limit < n {

@@ -7,7 +7,7 @@ use mathlib.Core.List.{List, [], _∷_, map, map-map, map-id}
 use native.Mathlib.Omega.{arith}
 use lib.Ieee.{Float, nan, lt, le, eq}
 use lib.ListN.{length, take}
-use Rattle.base.specs.Lists.{seek, keep}
+use Rattle.base.specs.Lists.{seek, keep, placesFrom}
 use Rattle.base.specs.Ranking.{unrankable, lastBest, insertBy, higher, sortBy}
 use Rattle.base.specs.Refusals.{Outcome, refused, gives, guarded}
 use Rattle.base.proofs.Cases.{never}
@@ -15,13 +15,12 @@ use Rattle.base.proofs.Order.{lt-irrefl}
 use Rattle.base.proofs.Highest.{Tops, highest, Last, last, best-map}
 use Rattle.base.proofs.Sorting.{Permuted, sort-permutes, Sorted, sort-sorts, level, sort-stable, Scored, higher-asym, higher-onward}
 use Rattle.ranking.specs.declared.Ranked.{Ranked}
-use Rattle.ranking.specs.Order.{scoreOf, numbered}
-use Rattle.ranking.specs.Times.{placesFrom}
+use Rattle.ranking.specs.Order.{rankedScore, numbered}
 use Rattle.ranking.proofs.Places.{places, rankedAt, numbered-places, sorted-places, scoreAt, ranked-sound}
 use Rattle.roster.specs.Roster.{Roster, ratingsCheck}
 use Rattle.objective.specs.declared.soft.SoftObjective.{SoftObjective}
 use Rattle.objective.specs.declared.pareto.ObjectiveWeights.{ObjectiveWeights}
-use Rattle.selection.specs.Selection.{Candidates, tooMuch, bestOf, scoresOf, greedyRule, firstAtLeast, thresholdRule, skillScores, fallingPlaces, weightedRule}
+use Rattle.selection.specs.Selection.{Candidates, tooMuch, bestOf, scoresOf, greedySelectionRule, firstAtLeast, thresholdRule, skillScores, fallingPlaces, weightedRule}
 
 -- ---- GreedySelection
 
@@ -34,7 +33,7 @@ best-place : (s : Float) (ss : List Float) {p : ℕ} → bestOf (numbered 0 (s �
 best-place s ss {p} h =
     let g = rankedAt nan (s ∷ ss) in
     let e : numbered 0 (s ∷ ss) ≡ g 0 ∷ map g (placesFrom 1 (length ss)) = numbered-places nan (s ∷ ss) 0 (length (s ∷ ss)) (omega arith) in
-    let m : lastBest scoreOf (g 0) (map g (placesFrom 1 (length ss))) ≡ g (lastBest (scoreAt (s ∷ ss)) 0 (placesFrom 1 (length ss))) = best-map g scoreOf 0 (placesFrom 1 (length ss)) in
+    let m : lastBest rankedScore (g 0) (map g (placesFrom 1 (length ss))) ≡ g (lastBest (scoreAt (s ∷ ss)) 0 (placesFrom 1 (length ss))) = best-map g rankedScore 0 (placesFrom 1 (length ss)) in
     let k : lastBest (scoreAt (s ∷ ss)) 0 (placesFrom 1 (length ss)) ∷ [] ≡ p ∷ [] = sym (ap (λ (x : Ranked). x .place ∷ []) m) ∙ sym (ap bestOf e) ∙ h in
     cc
 
@@ -56,7 +55,7 @@ given false (gives v) true h = never cc
 given false (gives v) false h = (refl, cc)
 
 -- the one that GreedySelection chooses: no candidate scores higher, and every candidate behind it scores lower
-pub greedy-chooses : (r : Roster) (objectives : List SoftObjective) (count : ℕ) (c : Candidates) {p : ℕ} → greedyRule r objectives count c ≡ gives (p ∷ []) → Greediest (scoresOf r (take count objectives) c) p
+pub greedy-chooses : (r : Roster) (objectives : List SoftObjective) (count : ℕ) (c : Candidates) {p : ℕ} → greedySelectionRule r objectives count c ≡ gives (p ∷ []) → Greediest (scoresOf r (take count objectives) c) p
 greedy-chooses r objectives count c h =
     let s = scoresOf r (take count objectives) c in
     let g = given (tooMuch c count) (ratingsCheck r) (unrankable s) h in
@@ -76,7 +75,7 @@ pub record Falling (scores : List Float) (ps : List ℕ) : Type 0 where
 falling-places : (scores : List Float) → fallingPlaces scores ≡ sortBy (higher (scoreAt scores)) (places scores)
 falling-places scores =
     let ps = sortBy (higher (scoreAt scores)) (places scores) in
-    ap (map (λ (x : Ranked). x .place)) (sorted-places nan (higher scoreOf) scores) ∙ map-map (λ (x : Ranked). x .place) (rankedAt nan scores) ps ∙ map-id ps
+    ap (map (λ (x : Ranked). x .place)) (sorted-places nan (higher rankedScore) scores) ∙ map-map (λ (x : Ranked). x .place) (rankedAt nan scores) ps ∙ map-id ps
 
 falls : (scores : List Float) → unrankable scores ≡ false → Falling scores (sortBy (higher (scoreAt scores)) (places scores))
 unfolding insertBy

@@ -20,15 +20,15 @@ use Rattle.base.proofs.Cases.{cases, never}
 use Rattle.base.proofs.Arrays.{peel, peeled, push}
 use Rattle.base.proofs.Checks.{guard-refuses, guard-passes}
 use Rattle.ranking.specs.declared.Ranked.{Ranked}
-use Rattle.ranking.specs.Order.{ranked, scoreOf, numbered}
+use Rattle.ranking.specs.Order.{ranked, rankedScore, numbered}
 use Rattle.ranking.proofs.Laws.{numbered-on, numbered-end}
 use Rattle.roster.specs.Roster.{Roster}
 use Rattle.matchmaker.specs.declared.ProposedMatch.{ProposedMatch}
 use Rattle.matchmaker.specs.Quality.{matchOf, overfull}
 use Rattle.objective.specs.declared.soft.SoftObjective.{SoftObjective}
 use Rattle.selection.specs.declared.lexicographic.Candidate.{Candidate}
-use Rattle.selection.specs.Selection.{Candidates, SelectedState, stated, tooMuch, bestOf, firstAtLeast, Kept, placed, nearBest, narrowed}
-use Rattle.selection.specs.Steps.{keptOf}
+use Rattle.selection.specs.Selection.{Candidates, SelectedState, stated, tooMuch, bestOf, firstAtLeast, StillIn, placed, nearBest, narrowed}
+use Rattle.selection.specs.Steps.{stillInOf}
 
 -- ---- for base
 
@@ -120,21 +120,21 @@ module _ (es : List Float) (n i : ℕ) (fits : n ≤ length es) where
   first-none m inv h k = sym (inv ∙ rw (numbered-end es n i fits h k))
 
   -- the best so far stays before a lower score
-  pub best-stays : {w : Ranked} (best : ℕ) → lastBest scoreOf (ranked best (getD es best nan)) (numbered i (drop i (take n es))) ≡ w → i < n → lt (getD es i nan) (getD es best nan) ≡ true → lastBest scoreOf (ranked best (getD es best nan)) (numbered (i + 1) (drop (i + 1) (take n es))) ≡ w
+  pub best-stays : {w : Ranked} (best : ℕ) → lastBest rankedScore (ranked best (getD es best nan)) (numbered i (drop i (take n es))) ≡ w → i < n → lt (getD es i nan) (getD es best nan) ≡ true → lastBest rankedScore (ranked best (getD es best nan)) (numbered (i + 1) (drop (i + 1) (take n es))) ≡ w
   best-stays best inv h t =
-      let e : better scoreOf (ranked best (getD es best nan)) (ranked i (getD es i nan)) ≡ ranked best (getD es best nan) = rw t in
-      sym (ap (λ (x : Ranked). lastBest scoreOf x (numbered (i + 1) (drop (i + 1) (take n es)))) e) ∙ (rw (numbered-on es n i fits h) at inv)
+      let e : better rankedScore (ranked best (getD es best nan)) (ranked i (getD es i nan)) ≡ ranked best (getD es best nan) = rw t in
+      sym (ap (λ (x : Ranked). lastBest rankedScore x (numbered (i + 1) (drop (i + 1) (take n es)))) e) ∙ (rw (numbered-on es n i fits h) at inv)
 
   -- and gives way to any other
-  pub best-turns : {w : Ranked} (best : ℕ) → lastBest scoreOf (ranked best (getD es best nan)) (numbered i (drop i (take n es))) ≡ w → i < n → lt (getD es i nan) (getD es best nan) ≡ false → lastBest scoreOf (ranked i (getD es i nan)) (numbered (i + 1) (drop (i + 1) (take n es))) ≡ w
+  pub best-turns : {w : Ranked} (best : ℕ) → lastBest rankedScore (ranked best (getD es best nan)) (numbered i (drop i (take n es))) ≡ w → i < n → lt (getD es i nan) (getD es best nan) ≡ false → lastBest rankedScore (ranked i (getD es i nan)) (numbered (i + 1) (drop (i + 1) (take n es))) ≡ w
   best-turns best inv h t =
-      let e : better scoreOf (ranked best (getD es best nan)) (ranked i (getD es i nan)) ≡ ranked i (getD es i nan) = rw t in
-      sym (ap (λ (x : Ranked). lastBest scoreOf x (numbered (i + 1) (drop (i + 1) (take n es)))) e) ∙ (rw (numbered-on es n i fits h) at inv)
+      let e : better rankedScore (ranked best (getD es best nan)) (ranked i (getD es i nan)) ≡ ranked i (getD es i nan) = rw t in
+      sym (ap (λ (x : Ranked). lastBest rankedScore x (numbered (i + 1) (drop (i + 1) (take n es)))) e) ∙ (rw (numbered-on es n i fits h) at inv)
 
 -- the best of all is the last of the best
-pub best-end : (es : List Float) (n i best : ℕ) → n ≤ length es → lastBest scoreOf (ranked best (getD es best nan)) (numbered i (drop i (take n es))) ≡ lastBest scoreOf (ranked 0 (getD es 0 nan)) (numbered 1 (drop 1 (take n es))) → 0 < n → n ≤ i → i ≤ n → best ∷ [] ≡ bestOf (numbered 0 (take n es))
+pub best-end : (es : List Float) (n i best : ℕ) → n ≤ length es → lastBest rankedScore (ranked best (getD es best nan)) (numbered i (drop i (take n es))) ≡ lastBest rankedScore (ranked 0 (getD es 0 nan)) (numbered 1 (drop 1 (take n es))) → 0 < n → n ≤ i → i ≤ n → best ∷ [] ≡ bestOf (numbered 0 (take n es))
 best-end es n i best fits inv some h k =
-    let e : ranked best (getD es best nan) ≡ lastBest scoreOf (ranked 0 (getD es 0 nan)) (numbered 1 (drop 1 (take n es))) = rw (numbered-end es n i fits h k) at inv in
+    let e : ranked best (getD es best nan) ≡ lastBest rankedScore (ranked 0 (getD es 0 nan)) (numbered 1 (drop 1 (take n es))) = rw (numbered-end es n i fits h k) at inv in
     let w : numbered 0 (take n es) ≡ ranked 0 (getD es 0 nan) ∷ numbered 1 (drop 1 (take n es)) = numbered-on es n 0 fits some in
     ap (λ (x : Ranked). x .place ∷ []) e ∙ ap bestOf (sym w)
 
@@ -146,8 +146,8 @@ best-none es n e = rw e
 -- ---- the shortlist
 
 -- as many are listed as the length states
-pub listed-length : (es : List Candidate) (n : ℕ) → n ≤ length es → length (map keptOf (take n es)) ≡ n
-listed-length es n fits = length-map (take n es) keptOf ∙ length-take-le n es fits
+pub listed-length : (es : List Candidate) (n : ℕ) → n ≤ length es → length (map stillInOf (take n es)) ≡ n
+listed-length es n fits = length-map (take n es) stillInOf ∙ length-take-le n es fits
 
 -- minus infinity, as the code writes it
 pub lowest : div binary64 (neg F.one) F.zero ≡ inf true
@@ -155,40 +155,40 @@ unfolding div neg ofBits
 lowest = refl
 
 -- all candidates, each with its place
-module _ (es : List ProposedMatch) (n i : ℕ) (fits : n ≤ length es) (out : List Candidate) {w : List Kept} (inv : map keptOf (take i out) ++ placed i (map matchOf (drop i (take n es))) ≡ w) where
-  pub listed-on : (d : ProposedMatch) → i < length out → i < n → map keptOf (take (i + 1) (set out i (record { place = i; proposed = getD es i d }))) ++ placed (i + 1) (map matchOf (drop (i + 1) (take n es))) ≡ w
+module _ (es : List ProposedMatch) (n i : ℕ) (fits : n ≤ length es) (out : List Candidate) {w : List StillIn} (inv : map stillInOf (take i out) ++ placed i (map matchOf (drop i (take n es))) ≡ w) where
+  pub listed-on : (d : ProposedMatch) → i < length out → i < n → map stillInOf (take (i + 1) (set out i (record { place = i; proposed = getD es i d }))) ++ placed (i + 1) (map matchOf (drop (i + 1) (take n es))) ≡ w
   unfolding placed
   listed-on d room h =
       let x : Candidate = record { place = i; proposed = getD es i d } in
-      let m : map keptOf (take i out ++ (x ∷ [])) ≡ map keptOf (take i out) ++ (keptOf x ∷ []) = map-append keptOf (take i out) (x ∷ []) in
-      rw (push out i x room, m, append-snoc (map keptOf (take i out)) (keptOf x) (placed (i + 1) (map matchOf (drop (i + 1) (take n es)))), add-one i)
+      let m : map stillInOf (take i out ++ (x ∷ [])) ≡ map stillInOf (take i out) ++ (stillInOf x ∷ []) = map-append stillInOf (take i out) (x ∷ []) in
+      rw (push out i x room, m, append-snoc (map stillInOf (take i out)) (stillInOf x) (placed (i + 1) (map matchOf (drop (i + 1) (take n es)))), add-one i)
       (rw (peel es n i d fits h, add-one i) at inv)
 
-  pub listed-end : n ≤ i → i ≤ n → map keptOf (take i out) ≡ w
+  pub listed-end : n ≤ i → i ≤ n → map stillInOf (take i out) ≡ w
   unfolding placed
-  listed-end h k = sym (append-nil (map keptOf (take i out))) ∙ (rw (peeled es n i fits h k) at inv)
+  listed-end h k = sym (append-nil (map stillInOf (take i out))) ∙ (rw (peeled es n i fits h k) at inv)
 
 -- one objective after another
 module _ (r : Roster) where
-  narrowed-one : (o : SoftObjective) (os : List SoftObjective) (ks : List Kept) → eqb (length (nearBest r o ks)) 1 ≡ true → narrowed r (o ∷ os) ks ≡ nearBest r o ks
+  narrowed-one : (o : SoftObjective) (os : List SoftObjective) (ks : List StillIn) → eqb (length (nearBest r o ks)) 1 ≡ true → narrowed r (o ∷ os) ks ≡ nearBest r o ks
   unfolding narrowed
   narrowed-one o os ks t = rw t
 
-  narrowed-more : (o : SoftObjective) (os : List SoftObjective) (ks : List Kept) → eqb (length (nearBest r o ks)) 1 ≡ false → narrowed r (o ∷ os) ks ≡ narrowed r os (nearBest r o ks)
+  narrowed-more : (o : SoftObjective) (os : List SoftObjective) (ks : List StillIn) → eqb (length (nearBest r o ks)) 1 ≡ false → narrowed r (o ∷ os) ks ≡ narrowed r os (nearBest r o ks)
   unfolding narrowed
   narrowed-more o os ks t = rw t
 
-  module _ (os : List SoftObjective) (n i : ℕ) (fits : n ≤ length os) (ks : List Kept) {w : List Kept} (inv : narrowed r (drop i (take n os)) ks ≡ w) where
+  module _ (os : List SoftObjective) (n i : ℕ) (fits : n ≤ length os) (ks : List StillIn) {w : List StillIn} (inv : narrowed r (drop i (take n os)) ks ≡ w) where
     -- one is left: it is the answer
-    pub narrow-stops : (d : SoftObjective) {s : List Kept} → i < n → s ≡ nearBest r (getD os i d) ks → eqb (length s) 1 ≡ true → s ≡ w
+    pub narrow-stops : (d : SoftObjective) {s : List StillIn} → i < n → s ≡ nearBest r (getD os i d) ks → eqb (length s) 1 ≡ true → s ≡ w
     narrow-stops d {s} h e t =
-        e ∙ sym (narrowed-one (getD os i d) (drop (i + 1) (take n os)) ks (sym (ap (λ (l : List Kept). eqb (length l) 1) e) ∙ t)) ∙ (rw (peel os n i d fits h) at inv)
+        e ∙ sym (narrowed-one (getD os i d) (drop (i + 1) (take n os)) ks (sym (ap (λ (l : List StillIn). eqb (length l) 1) e) ∙ t)) ∙ (rw (peel os n i d fits h) at inv)
 
     -- else the next objective narrows what is left
-    pub narrow-on : (d : SoftObjective) {s : List Kept} → i < n → s ≡ nearBest r (getD os i d) ks → eqb (length s) 1 ≡ false → narrowed r (drop (i + 1) (take n os)) s ≡ w
+    pub narrow-on : (d : SoftObjective) {s : List StillIn} → i < n → s ≡ nearBest r (getD os i d) ks → eqb (length s) 1 ≡ false → narrowed r (drop (i + 1) (take n os)) s ≡ w
     narrow-on d {s} h e t =
         ap (narrowed r (drop (i + 1) (take n os))) e
-        ∙ sym (narrowed-more (getD os i d) (drop (i + 1) (take n os)) ks (sym (ap (λ (l : List Kept). eqb (length l) 1) e) ∙ t)) ∙ (rw (peel os n i d fits h) at inv)
+        ∙ sym (narrowed-more (getD os i d) (drop (i + 1) (take n os)) ks (sym (ap (λ (l : List StillIn). eqb (length l) 1) e) ∙ t)) ∙ (rw (peel os n i d fits h) at inv)
 
     -- no objective is left
     pub narrow-end : n ≤ i → i ≤ n → ks ≡ w

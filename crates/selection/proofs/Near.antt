@@ -30,7 +30,7 @@ use Rattle.objective.specs.declared.soft.SoftObjective.{SoftObjective}
 use Rattle.objective.specs.declared.soft.SoftObjective.the-variants.{Skill, Latency, Wait}
 use Rattle.objective.specs.Soft.{half, latencyAt, softValueOf}
 use Rattle.objective.proofs.Values.{latency-low, value-not-nan}
-use Rattle.selection.specs.Selection.{Candidates, tooMuch, thousandth, maxOf, Kept, placed, valueOf, nearBest, narrowed, lexicographicRule}
+use Rattle.selection.specs.Selection.{Candidates, tooMuch, thousandth, maxOf, StillIn, placed, valueOf, nearBest, narrowed, lexicographicRule}
 
 -- ---- for base: what a format holds, less something, rounds to no more than it was
 
@@ -233,7 +233,7 @@ keep-some p k (x ∷ xs) m h = go (List·Memᴰ·cases-cons m) (λ n. keep-some 
     go (inr n) rest = let i : 0 < length (keep p xs) = rest n in cases (p x) (λ t. rw t (omega arith)) (λ f. rw f i)
 
 -- some are near the best
-near-some : (r : Roster) (o : SoftObjective) (ks : List Kept) → 0 < length ks → 0 < length (nearBest r o ks)
+near-some : (r : Roster) (o : SoftObjective) (ks : List StillIn) → 0 < length ks → 0 < length (nearBest r o ks)
 near-some r o [] h = absurd (omega arith)
 near-some r o (k ∷ ks) h =
     let v = valueOf r o in
@@ -243,12 +243,12 @@ near-some r o (k ∷ ks) h =
     let t : le (sub binary64 (v j) thousandth) (v j) ≡ true = is-true _ (less-thousandth (v j) (value-low r (j .match) o) (value-fits r (j .match) o)) in
     keep-some (λ x. le (sub binary64 (foldl maxOf (inf true) (map v (k ∷ ks))) thousandth) (v x)) j (k ∷ ks) (l .1) (ap (λ (x : Float). le (sub binary64 x thousandth) (v j)) e ∙ t)
 
-narrowed-some : (r : Roster) (os : List SoftObjective) (ks : List Kept) → 0 < length ks → 0 < length (narrowed r os ks)
+narrowed-some : (r : Roster) (os : List SoftObjective) (ks : List StillIn) → 0 < length ks → 0 < length (narrowed r os ks)
 unfolding narrowed
 narrowed-some r [] ks h = h
 narrowed-some r (o ∷ os) ks h =
     let n = near-some r o ks h in
-    pick (λ (l : List Kept). 0 < length l) (eqb (length (nearBest r o ks)) 1) n (narrowed-some r os (nearBest r o ks) n)
+    pick (λ (l : List StillIn). 0 < length l) (eqb (length (nearBest r o ks)) 1) n (narrowed-some r os (nearBest r o ks) n)
 
 given : (t : Bool) (o : Outcome Unit) {xs ys : List ℕ} → cond t (refused 1) (guarded o (gives xs)) ≡ gives ys → xs ≡ ys
 given true o h = never cc
@@ -266,4 +266,4 @@ lexicographic-leaves r objectives count c h some =
     let l = narrowed r (take count objectives) (placed 0 (c .matches)) in
     let e = given (tooMuch c count) (ratingsCheck r) h in
     let n : 0 < length l = narrowed-some r (take count objectives) (placed 0 (c .matches)) (placed-some 0 (c .matches) some) in
-    rw (← e) (subst (λ (k : ℕ). 0 < k) (sym (length-map l (λ (k : Kept). k .place))) n)
+    rw (← e) (subst (λ (k : ℕ). 0 < k) (sym (length-map l (λ (k : StillIn). k .place))) n)

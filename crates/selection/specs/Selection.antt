@@ -9,7 +9,7 @@ use Rattle.base.specs.Refusals.{Outcome, refused, gives, guarded, checkedOf}
 use Rattle.base.specs.Lists.{seek, any, keep}
 use Rattle.base.specs.Ranking.{unrankable, lastBest, higher, sortBy}
 use Rattle.ranking.specs.declared.Ranked.{Ranked}
-use Rattle.ranking.specs.Order.{scoreOf, numbered}
+use Rattle.ranking.specs.Order.{rankedScore, numbered, placesIn}
 use Rattle.roster.specs.Roster.{Roster, ratingsCheck}
 use Rattle.matchmaker.specs.declared.ProposedMatch.{ProposedMatch}
 use Rattle.matchmaker.specs.Quality.{MatchState, matchOf, overfull, qualityOf}
@@ -26,23 +26,13 @@ pub record Candidates : Type 0 where
 abbrev pub candidatesOf : List ProposedMatch → ℕ → Candidates
 candidatesOf cs n = record { size = n; matches = map matchOf (take n cs) }
 
--- "A selection answers with the chosen candidates' places in the given list, from 0."
-abbrev pub placesGiven : Outcome Unit → List ℕ → Outcome (List ℕ)
-placesGiven (refused n) ps = refused n
-placesGiven (gives u) ps = gives ps
-
--- an answer: the number of places that it states, and the places or the refusal
+-- an answer: the number of places that it states, and "the chosen candidates' places in the given list, from 0", or the refusal
 pub record SelectedState : Type 0 where
   pub size : ℕ
   pub places : Outcome (List ℕ)
 
 abbrev pub selectedOf : Selected → SelectedState
-selectedOf s = record { size = s .count; places = placesGiven (checkedOf (s .answer)) (take (s .count) (s .places)) }
-
--- how many places are given: none where it is refused
-abbrev pub placesIn : Outcome (List ℕ) → ℕ
-placesIn (refused n) = 0
-placesIn (gives ps) = length ps
+selectedOf s = record { size = s .count; places = guarded (checkedOf (s .answer)) (gives (take (s .count) (s .places))) }
 
 -- the answer that states as many places as it gives
 abbrev pub stated : Outcome (List ℕ) → SelectedState
@@ -58,13 +48,13 @@ tooMuch c objectives = ltb 64 (c .size) || (any overfull (c .matches) || ltb 8 o
 
 abbrev pub bestOf : List Ranked → List ℕ
 bestOf [] = []
-bestOf (x ∷ xs) = lastBest scoreOf x xs .place ∷ []
+bestOf (x ∷ xs) = lastBest rankedScore x xs .place ∷ []
 
 abbrev pub scoresOf : Roster → List SoftObjective → Candidates → List Float
 scoresOf r objectives c = map (λ m. softScoreOf r m objectives) (c .matches)
 
-abbrev pub greedyRule : Roster → List SoftObjective → ℕ → Candidates → Outcome (List ℕ)
-greedyRule r objectives count c =
+abbrev pub greedySelectionRule : Roster → List SoftObjective → ℕ → Candidates → Outcome (List ℕ)
+greedySelectionRule r objectives count c =
     cond (tooMuch c count) (refused 1)
     (guarded (ratingsCheck r)
     (cond (unrankable (scoresOf r (take count objectives) c)) (refused 5) (gives (bestOf (numbered 0 (scoresOf r (take count objectives) c))))))
@@ -94,21 +84,21 @@ abbrev pub highestOf : List Float → Float
 highestOf = foldl maxOf (inf true)
 
 -- a candidate that is still kept
-pub record Kept : Type 0 where
+pub record StillIn : Type 0 where
   pub place : ℕ
   pub match : MatchState
 
-unfoldable pub placed : ℕ → List MatchState → List Kept
+unfoldable pub placed : ℕ → List MatchState → List StillIn
 placed at [] = []
 placed at (m ∷ ms) = record { place = at; match = m } ∷ placed (suc at) ms
 
-abbrev pub valueOf : Roster → SoftObjective → Kept → Float
+abbrev pub valueOf : Roster → SoftObjective → StillIn → Float
 valueOf r o k = softValueOf r (k .match) o
 
-abbrev pub nearBest : Roster → SoftObjective → List Kept → List Kept
+abbrev pub nearBest : Roster → SoftObjective → List StillIn → List StillIn
 nearBest r o ks = keep (λ k. le (sub binary64 (highestOf (map (valueOf r o) ks)) thousandth) (valueOf r o k)) ks
 
-unfoldable pub narrowed : Roster → List SoftObjective → List Kept → List Kept
+unfoldable pub narrowed : Roster → List SoftObjective → List StillIn → List StillIn
 narrowed r [] ks = ks
 narrowed r (o ∷ os) ks = cond (eqb (length (nearBest r o ks)) 1) (nearBest r o ks) (narrowed r os (nearBest r o ks))
 
@@ -123,7 +113,7 @@ abbrev pub skillScores : Roster → ObjectiveWeights → Candidates → List Flo
 skillScores r w c = map (λ m. mul binary64 (w .skill) (qualityOf r (m .a .players) (m .b .players))) (c .matches)
 
 abbrev pub fallingPlaces : List Float → List ℕ
-fallingPlaces scores = map (λ c. c .place) (sortBy (higher scoreOf) (numbered 0 scores))
+fallingPlaces scores = map (λ c. c .place) (sortBy (higher rankedScore) (numbered 0 scores))
 
 abbrev pub weightedRule : Roster → ObjectiveWeights → Candidates → Outcome (List ℕ)
 weightedRule r w c =

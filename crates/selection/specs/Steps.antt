@@ -2,12 +2,12 @@
 use mathlib.Core.List.{List, map}
 use lib.ListN.{take}
 use Rattle.matchmaker.specs.Quality.{matchOf}
-use Rattle.selection.specs.Selection.{Kept}
+use Rattle.selection.specs.Selection.{StillIn}
 use Rattle.selection.specs.declared.lexicographic.Candidate.{Candidate}
 use Rattle.selection.specs.declared.lexicographic.Shortlist.{Shortlist}
 
-abbrev pub keptOf : Candidate → Kept
-keptOf c = record { place = c .place; match = matchOf (c .proposed) }
+abbrev pub stillInOf : Candidate → StillIn
+stillInOf c = record { place = c .place; match = matchOf (c .proposed) }
 
-abbrev pub shortlistOf : Shortlist → List Kept
-shortlistOf s = map keptOf (take (s .len) (s .candidates))
+abbrev pub shortlistOf : Shortlist → List StillIn
+shortlistOf s = map stillInOf (take (s .len) (s .candidates))

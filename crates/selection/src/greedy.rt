@@ -5,7 +5,7 @@ ghost use Prim.Native.Nat.{_≤_, _<_};
 ghost use lib.ListN.{take};
 ghost use Rattle.ranking.specs.Order.{numbered};
 ghost use Rattle.roster.specs.Roster.{ofRatings};
-ghost use Rattle.selection.specs.Selection.{candidatesOf, selectedOf, stated, bestOf, greedyRule};
+ghost use Rattle.selection.specs.Selection.{candidatesOf, selectedOf, stated, bestOf, greedySelectionRule};
 use crate::Selected;
 use base::Checked;
 use base::Refusal;
@@ -38,7 +38,7 @@ pub fn select(
     ids: &[u64],
     ratings: &[f64],
 ) -> Selected
-    ensures { λ r. ⌜ selectedOf r ≡ stated (greedyRule (ofRatings (now (ids .entry)) (now (ratings .entry))) objectives count (candidatesOf candidates n)) ⌝ }
+    ensures { λ r. ⌜ selectedOf r ≡ stated (greedySelectionRule (ofRatings (now (ids .entry)) (now (ratings .entry))) objectives count (candidatesOf candidates n)) ⌝ }
 {
     if let Checked::Refused(refusal) = crate::check(candidates, n, count, ids, ratings) {
         return crate::refuse(refusal);

@@ -27,7 +27,7 @@ pub mod lexicographic;
 // WeightedObjectiveSelection: all, the best first.
 pub mod weighted;
 
-// The first `count` places, or the refusal.
+// The first `count` places, or the refusal and none. What stands behind them is free.
 pub struct Selected {
     pub places: [usize; 64],
     pub count: usize,
@@ -38,9 +38,10 @@ pub struct Selected {
 pub(crate) fn refuse(refusal: Refusal) -> Selected
     ensures { λ r. ⌜ selectedOf r ≡ stated (refused (refusalNumber refusal)) ⌝ }
 {
+    let none: usize = 0;
     Selected {
         places: [0; 64],
-        count: 0,
+        count: none,
         answer: Checked::Refused(refusal),
     }
 }

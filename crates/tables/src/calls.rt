@@ -1,5 +1,6 @@
 // The five calls of a hall, what each brings, and how it is made.
 use crate::rosters;
+use beam::BeamSearch;
 use capi::halls;
 use capi::halls::Keyed;
 use capi::halls::Rounded;
@@ -8,7 +9,6 @@ use hall::Booking;
 use hall::Hall;
 use objective::score::MatchObjective;
 use rosters::Roster;
-use search::beam::BeamSearch;
 use seating::Formed;
 use seating::TeamComposition;
 

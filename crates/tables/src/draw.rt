@@ -58,7 +58,7 @@ fn below(word: u64, n: u64) -> u64 {
     word % n
 }
 
-// One in sixteen is late.
+// One in sixteen is above 2^53.
 fn time(word: u64) -> u64 {
     if word % 16 == 0 {
         return 9007199254740993;

@@ -3,10 +3,12 @@ use crate::calls;
 use crate::rosters;
 use crate::story;
 use crate::text;
+use beam::BeamSearch;
 use calls::Call;
 use candidate::exhaustive::ExhaustiveGenerator;
 use capi::halls;
 use capi::scores::SoftObjectives;
+use greedy::GreedySearch;
 use hall::Booking;
 use hall::Hall;
 use matchmaker::ProposedMatch;
@@ -16,8 +18,6 @@ use objective::pareto::MatchObjectiveVector;
 use objective::score::MatchObjective;
 use queue::Queue;
 use queue::QueueEntry;
-use search::beam::BeamSearch;
-use search::greedy::GreedySearch;
 use seating::TeamComposition;
 
 pub fn all() {

@@ -12,8 +12,8 @@ mod dominates;
 mod duration_since;
 mod enqueue;
 mod exhaustive;
-mod greedy;
 mod greedy_search;
+mod greedy_selection;
 mod latency;
 mod lexicographic;
 mod match_quality;
@@ -33,7 +33,25 @@ mod validate;
 mod waiting_time;
 mod weighted;
 
+// The name of a function, by the file of the Rust that has it.
 pub fn write_name(code: u64) -> bool {
+    if code < 8 {
+        return write_queue_name(code);
+    }
+    if code < 13 {
+        return write_match_name(code);
+    }
+    if code < 21 {
+        return write_constraint_name(code);
+    }
+    if code < 25 {
+        return write_selection_name(code);
+    }
+    write_search_name(code)
+}
+
+// queue.rs and time.rs, and the roster.
+fn write_queue_name(code: u64) -> bool {
     match code {
         1 => io::write_all(1, b"enqueue"),
         2 => io::write_all(1, b"remove"),
@@ -42,11 +60,25 @@ pub fn write_name(code: u64) -> bool {
         5 => io::write_all(1, b"duration_since"),
         6 => io::write_all(1, b"as_secs_f64"),
         7 => io::write_all(1, b"check_roster"),
+        _ => write_unknown(code),
+    }
+}
+
+// matchmaker.rs and objective.rs.
+fn write_match_name(code: u64) -> bool {
+    match code {
         8 => io::write_all(1, b"match_quality"),
         9 => io::write_all(1, b"match_score"),
         10 => io::write_all(1, b"soft_score"),
         11 => io::write_all(1, b"scalarize"),
         12 => io::write_all(1, b"dominates"),
+        _ => write_unknown(code),
+    }
+}
+
+// constraint.rs and policy.rs.
+fn write_constraint_name(code: u64) -> bool {
+    match code {
         13 => io::write_all(1, b"sizes"),
         14 => io::write_all(1, b"roles"),
         15 => io::write_all(1, b"parties"),
@@ -55,10 +87,24 @@ pub fn write_name(code: u64) -> bool {
         18 => io::write_all(1, b"constraints"),
         19 => io::write_all(1, b"validate"),
         20 => io::write_all(1, b"policy_score"),
+        _ => write_unknown(code),
+    }
+}
+
+// selection.rs.
+fn write_selection_name(code: u64) -> bool {
+    match code {
         21 => io::write_all(1, b"greedy"),
         22 => io::write_all(1, b"threshold"),
         23 => io::write_all(1, b"lexicographic"),
         24 => io::write_all(1, b"weighted"),
+        _ => write_unknown(code),
+    }
+}
+
+// search.rs and candidate.rs.
+fn write_search_name(code: u64) -> bool {
+    match code {
         25 => io::write_all(1, b"greedy_search"),
         26 => io::write_all(1, b"nearest"),
         27 => io::write_all(1, b"beam_search"),
@@ -99,7 +145,7 @@ pub fn replay(text: &[u8], code: u64, inputs: Cursor) -> Cursor {
         18 => constraints::replay(text, inputs),
         19 => validate::replay(text, inputs),
         20 => policy_score::replay(text, inputs),
-        21 => greedy::replay(text, inputs),
+        21 => greedy_selection::replay(text, inputs),
         22 => threshold::replay(text, inputs),
         23 => lexicographic::replay(text, inputs),
         24 => weighted::replay(text, inputs),

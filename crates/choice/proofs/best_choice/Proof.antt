@@ -12,7 +12,7 @@ use Rattle.candidate.proofs.Walking.{ways-small}
 use Rattle.choice.specs.Full.{terms, chosen}
 use Rattle.choice.specs.Steps.{SoFar}
 use Rattle.choice.proofs.Checking.{held}
-use Rattle.choice.proofs.Stepping.{all-weighed}
+use Rattle.choice.proofs.Stepping.{parts-by, all-weighed}
 use Rattle.choice.proofs.Summing.{filling-start}
 use borrow.Author.Needs.{needs}
 use Rattle.choice.proofs.best_choice.Statement.{statement}
@@ -31,7 +31,7 @@ returns : tie.Need-returns
 returns c =
     let s = c .before .before .before .before .before .before .before .before .before .before .args in
     let t = terms (ofRules (s .ids .now) (s .ratings .now) (s .parties .now) (s .roles .now) (s .regions .now)) (s .constraints) (s .objectives) (s .count) in
-    c .refuse .ensures ∙ guard-refuses (chosen t (s .sizes) (take (s .queue .len) (s .queue .entries))) _ (c .before .before .refusal .given .1) (c .before .before .before .before .check .ensures)
+    parts-by _ (guard-refuses (chosen t (s .sizes) (take (s .queue .len) (s .queue .entries))) _ (c .before .before .refusal .given .1) (c .before .before .before .before .check .ensures)) (c .refuse .ensures)
 
 enum-told : tie.Need-enum-told
 enum-told c = search needs
@@ -88,9 +88,10 @@ returns-2 c =
     let w : length (s .queue .entries) ≡ 64 = search (unmapped, needs, c .before .before .before .before .before .before .before .before .before .before .before .before .before .before .before .before .before .before .before .before .before .before .before .good .0) in
     let z = held (ofRules (s .ids .now) (s .ratings .now) (s .parties .now) (s .roles .now) (s .regions .now)) (s .constraints) (s .count) (s .sizes) (s .queue .entries) (s .queue .len) w (c .before .before .before .before .before .before .before .before .before .before .before .before .before .before .before .enum-told .given .1) (c .before .before .before .before .before .before .before .before .before .before .before .before .before .before .before .before .before .check .ensures) in
     let t = terms (ofRules (s .ids .now) (s .ratings .now) (s .parties .now) (s .roles .now) (s .regions .now)) (s .constraints) (s .objectives) (s .count) in
-    c .concluded .ensures
-    ∙ all-weighed t (s .sizes) (s .queue .entries) (s .queue .len) (z .a) (z .b) (c .before .before .before .before .before .before .before .before .before .before .before .before .before .before .players .ensures) (c .before .before .before .before .nobody .ensures) (c .before .before .untried .ensures) (c .before .walk .ensures)
-    ∙ guard-passes (chosen t (s .sizes) (take (s .queue .len) (s .queue .entries))) _ (c .before .before .before .before .before .before .before .before .before .before .before .before .before .before .before .enum-told .given .1) (c .before .before .before .before .before .before .before .before .before .before .before .before .before .before .before .before .before .check .ensures)
+    parts-by _
+    (all-weighed t (s .sizes) (s .queue .entries) (s .queue .len) (z .a) (z .b) (c .before .before .before .before .before .before .before .before .before .before .before .before .before .before .players .ensures) (c .before .before .before .before .nobody .ensures) (c .before .before .untried .ensures) (c .before .walk .ensures)
+    ∙ guard-passes (chosen t (s .sizes) (take (s .queue .len) (s .queue .entries))) _ (c .before .before .before .before .before .before .before .before .before .before .before .before .before .before .before .enum-told .given .1) (c .before .before .before .before .before .before .before .before .before .before .before .before .before .before .before .before .before .check .ensures))
+    (c .concluded .ensures)
 
 pub best-choice-spec : {M : Type 1} → statement M
 best-choice-spec =

@@ -6,24 +6,24 @@ use Rattle.hall.specs.Hall.{bookingAnswer}
 use Rattle.hall.proofs.booking_answer.Statement.{statement}
 use Rattle.hall.proofs.booking_answer.Tie as tie
 
-is-late-requires : tie.Need-is-late-requires
-is-late-requires c κs = search needs
+is-over-requires : tie.Need-is-over-requires
+is-over-requires c κs = search needs
 
 returns : tie.Need-returns
 unfolding bookingAnswer
-returns c = rw (sym (c .before .is-late .ensures) ∙ c .if1 .taken)
+returns c = rw (sym (c .before .is-over .ensures) ∙ c .if1 .taken)
 
 returns-2 : tie.Need-returns-2
 unfolding bookingAnswer
-returns-2 c = rw (sym (c .before .before .is-late .ensures) ∙ c .before .if1 .left, c .if2 .taken)
+returns-2 c = rw (sym (c .before .before .is-over .ensures) ∙ c .before .if1 .left, c .if2 .taken)
 
 returns-3 : tie.Need-returns-3
 unfolding bookingAnswer
-returns-3 c = rw (sym (c .before .before .before .is-late .ensures) ∙ c .before .before .if1 .left, c .before .if2 .left, lt-ltb _ _ (c .if3 .taken))
+returns-3 c = rw (sym (c .before .before .before .is-over .ensures) ∙ c .before .before .if1 .left, c .before .if2 .left, lt-ltb _ _ (c .if3 .taken))
 
 returns-4 : tie.Need-returns-4
 unfolding bookingAnswer
-returns-4 c = rw (sym (c .before .before .before .is-late .ensures) ∙ c .before .before .if1 .left, c .before .if2 .left, le-ltb _ _ (c .if3 .left))
+returns-4 c = rw (sym (c .before .before .before .is-over .ensures) ∙ c .before .before .if1 .left, c .before .if2 .left, le-ltb _ _ (c .if3 .left))
 
 pub booking-answer-spec : {M : Type 1} → statement M
-booking-answer-spec = tie.close (tie.spec is-late-requires returns returns-2 returns-3 returns-4)
+booking-answer-spec = tie.close (tie.spec is-over-requires returns returns-2 returns-3 returns-4)

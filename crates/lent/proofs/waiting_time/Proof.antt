@@ -54,23 +54,24 @@ use denote.Triple.Clauses.{ensured, lasts}
 use denote.Exit.{yes}
 use Rattle.base.specs.Refusals.{Outcome}
 use Rattle.base.proofs.Loops.{fold-on-of, fold-end-of}
-use Rattle.queue.specs.Queue.{waitOf, waitRule, holding, noEntry}
+use Rattle.queue.specs.Queue.{waitOf, waitRule, holding}
+use Rattle.queue.specs.Columns.{noEntry}
 use Rattle.queue.specs.declared.QueueEntry.{QueueEntry}
 use Rattle.queue.specs.declared.Wait.{Wait}
 use Rattle.queue.proofs.QueueEntry as E
 use Rattle.queue.proofs.QueueEntry.Laws as E′
 use Rattle.queue.proofs.Wait as N
 use Rattle.queue.proofs.Wait.Laws as N′
-use Rattle.lent.specs.Reading.{readable, opened, read}
+use Rattle.lent.specs.Reading.{readable, beforeReading, read}
 use Rattle.lent.proofs.Laws.{readable-fits, read-whole}
 use Rattle.lent.proofs.readable as readable′
 use Rattle.lent.proofs.readable.Symbol as readable-def
 use Rattle.lent.proofs.readable.Symbol.{name as #lent·readable}
 use Rattle.lent.proofs.readable.Met as readable-thm
-use Rattle.lent.proofs.opened as opened′
-use Rattle.lent.proofs.opened.Symbol as opened-def
-use Rattle.lent.proofs.opened.Symbol.{name as #lent·opened}
-use Rattle.lent.proofs.opened.Met as opened-thm
+use Rattle.lent.proofs.before_reading as beforeReading′
+use Rattle.lent.proofs.before_reading.Symbol as opened-def
+use Rattle.lent.proofs.before_reading.Symbol.{name as #lent·opened}
+use Rattle.lent.proofs.before_reading.Met as opened-thm
 use Rattle.lent.proofs.read as read′
 use Rattle.lent.proofs.read.Symbol as read-def
 use Rattle.lent.proofs.read.Symbol.{name as #lent·read}
@@ -99,7 +100,7 @@ module _ {M : Type 1} (𝓤 : URA M) (H : Heap 𝓤) (A : Atoms 𝓤) (at-mem : 
   Readable = tripleOf 𝓤 H A readable′.signature (readable′.spec 𝓤 H A at-mem run)
 
   abbrev Opened : Contract 𝓤
-  Opened = tripleOf 𝓤 H A opened′.signature (opened′.spec 𝓤 H A at-mem run)
+  Opened = tripleOf 𝓤 H A beforeReading′.signature (beforeReading′.spec 𝓤 H A at-mem run)
 
   abbrev Read : Contract 𝓤
   Read = tripleOf 𝓤 H A read′.signature (read′.spec 𝓤 H A at-mem run)
@@ -107,8 +108,8 @@ module _ {M : Type 1} (𝓤 : URA M) (H : Heap 𝓤) (A : Atoms 𝓤) (at-mem : 
   readable-is : (n r : ℕ) → ent 𝓤 (ensured 𝓤 H A readable′.ended (readable′.clauses 𝓤 H A at-mem run) tt (n, tt) tt r) (fact 𝓤 (r ≡ readable n))
   readable-is n r = exE 𝓤 _ (λ ws. snd∗ 𝓤 (sem 𝓤 H A (lasts readable′.ended tt (n, tt) ws)) (fact 𝓤 (r ≡ readable n)))
 
-  opened-is : (n c : ℕ) (r : Wait) → ent 𝓤 (ensured 𝓤 H A opened′.ended (opened′.clauses 𝓤 H A at-mem run) tt (n, (c, tt)) tt r) (fact 𝓤 (waitOf r ≡ opened n c))
-  opened-is n c r = exE 𝓤 _ (λ ws. snd∗ 𝓤 (sem 𝓤 H A (lasts opened′.ended tt (n, (c, tt)) ws)) (fact 𝓤 (waitOf r ≡ opened n c)))
+  opened-is : (n c : ℕ) (r : Wait) → ent 𝓤 (ensured 𝓤 H A beforeReading′.ended (beforeReading′.clauses 𝓤 H A at-mem run) tt (n, (c, tt)) tt r) (fact 𝓤 (waitOf r ≡ beforeReading n c))
+  opened-is n c r = exE 𝓤 _ (λ ws. snd∗ 𝓤 (sem 𝓤 H A (lasts beforeReading′.ended tt (n, (c, tt)) ws)) (fact 𝓤 (waitOf r ≡ beforeReading n c)))
 
   read-is : (w : Wait) (e : QueueEntry) (p c : ℕ) (r : Wait) → ent 𝓤 (ensured 𝓤 H A read′.ended (read′.clauses 𝓤 H A at-mem run) tt (w, (e, (p, (c, tt)))) tt r) (fact 𝓤 (waitOf r ≡ read p c (waitOf w) e))
   read-is w e p c r = exE 𝓤 _ (λ ws. snd∗ 𝓤 (sem 𝓤 H A (lasts read′.ended tt (w, (e, (p, (c, tt)))) ws)) (fact 𝓤 (waitOf r ≡ read p c (waitOf w) e)))
@@ -280,8 +281,8 @@ module _ {M : Type 1} (𝓤 : URA M) (H : Heap 𝓤) (A : Atoms 𝓤) (W : Given
         assigns ! (of-opd ! (load ! (from ! (fld ! refl (stop !))) (look-in ! 20 (sub ! 1 refl (whole !))))) (from ! (stop !)) (store ! 8 refl (tt, record { fits = room .0 })) $
         use0 W (raw (Opened 𝓤 H A at-mem run .pre to-opened)) goes-opened $
         calls-at ! (fmOf 𝓤 H (W .laws) 𝓣) (Opened 𝓤 H A at-mem run) known-opened to-opened (and-then ! (load ! (from ! (stop !)) (look ! 9 refl)) (and-then ! (load ! (from ! (stop !)) (look ! 17 refl)) (no-more !))) (λ v₂.
-        use1 W (later (some (λ (r : Wait). (‵ ftrue ⊛ ‵ (N.the-row .own r (v₂ ∷ []))) ⊛ raw (ensured 𝓤 H A opened′.ended (opened′.clauses 𝓤 H A at-mem run) tt (n, (c, tt)) tt r)))) (id⊢ 𝓤 _) $ await ! tt $ pick ! (λ w.
-        split ! $ move ! (1 ∷ []) $ use1 W (raw (fact 𝓤 (waitOf w ≡ opened n c))) (opened-is 𝓤 H A at-mem run n c w) $ heard ! (waitOf w ≡ opened n c) (λ e₂. split ! $ let-go ! $
+        use1 W (later (some (λ (r : Wait). (‵ ftrue ⊛ ‵ (N.the-row .own r (v₂ ∷ []))) ⊛ raw (ensured 𝓤 H A beforeReading′.ended (beforeReading′.clauses 𝓤 H A at-mem run) tt (n, (c, tt)) tt r)))) (id⊢ 𝓤 _) $ await ! tt $ pick ! (λ w.
+        split ! $ move ! (1 ∷ []) $ use1 W (raw (fact 𝓤 (waitOf w ≡ beforeReading n c))) (opened-is 𝓤 H A at-mem run n c w) $ heard ! (waitOf w ≡ beforeReading n c) (λ e₂. split ! $ let-go ! $
         peeks ! N.the-row (Is N.the-row) (shows 𝓤 H A N.the-row) w (v₂ ∷ []) (λ i₂. let-go ! $
         land ! (from ! (stop !)) (init ! 12 refl (EL.lawful N.the-type N′.the-laws 𝓤 H A W tt .typed w _ i₂ .0)) $
         assigns ! (of-opd ! (lit ! tt)) (from ! (stop !)) (init ! 10 refl (tt, record { fits = lit< tt })) $
@@ -306,5 +307,5 @@ waiting-time-spec 𝓤 H 𝓜 𝓖 𝓡 =
     (tables 𝓤 H 𝓜 𝓡 code.env .C) (tables 𝓤 H 𝓜 𝓡 code.env .Λ) #lent·waiting-time code.function (code.unfolded 𝓤 H 𝓜 𝓡)
     (meets 𝓤 H (𝓖 .A) (givenOf 𝓤 H 𝓜 𝓖) (𝓜 .mem) (𝓡 .run) (tablesOf 𝓤 H 𝓜 (tables 𝓤 H 𝓜 𝓡 code.env))
     (cited 𝓤 H (Readable 𝓤 H (𝓖 .A) (𝓜 .mem) (𝓡 .run)) 𝓜 𝓡 code.env #lent·readable readable-def.routine code.calls-lent·readable (readable-thm.met 𝓤 H 𝓜 𝓖 𝓡))
-    (cited 𝓤 H (Opened 𝓤 H (𝓖 .A) (𝓜 .mem) (𝓡 .run)) 𝓜 𝓡 code.env #lent·opened opened-def.routine code.calls-lent·opened (opened-thm.met 𝓤 H 𝓜 𝓖 𝓡))
+    (cited 𝓤 H (Opened 𝓤 H (𝓖 .A) (𝓜 .mem) (𝓡 .run)) 𝓜 𝓡 code.env #lent·opened opened-def.routine code.calls-lent·before-reading (opened-thm.met 𝓤 H 𝓜 𝓖 𝓡))
     (cited 𝓤 H (Read 𝓤 H (𝓖 .A) (𝓜 .mem) (𝓡 .run)) 𝓜 𝓡 code.env #lent·read read-def.routine code.calls-lent·read (read-thm.met 𝓤 H 𝓜 𝓖 𝓡)))

@@ -6,7 +6,7 @@ use native.Mathlib.Omega.{arith}
 use lib.ListN.{length, drop}
 use lib.Ieee.{Float, binary64, add}
 use Rattle.base.proofs.Loops.{fold-on, fold-end}
-use Rattle.roster.specs.Roster.{valueAt}
+use Rattle.roster.specs.Rows.{valueAt}
 use Rattle.matchmaker.specs.Steps.{absorb}
 use Rattle.matchmaker.proofs.Laws.{fold-observations}
 use borrow.Author.Needs.{needs}

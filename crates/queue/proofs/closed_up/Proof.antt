@@ -7,7 +7,7 @@ use Prim.Native.Nat.{_+_, _-_, _≤_, _<_}
 use lib.ListN.{length, take, drop, length-set}
 use lib.Seq.{take-take}
 use Rattle.base.proofs.Loops.{shift-on}
-use Rattle.queue.specs.Queue.{noEntry}
+use Rattle.queue.specs.Columns.{noEntry}
 use Rattle.queue.proofs.Laws.{closed}
 use Rattle.queue.proofs.closed_up.Statement.{statement}
 use Rattle.queue.proofs.closed_up.Tie as tie

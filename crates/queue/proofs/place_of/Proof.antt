@@ -7,7 +7,8 @@ use lib.ListN.{take, drop}
 use borrow.Author.Tests.{eq-eqb, ne-eqb}
 use Rattle.base.specs.Lists.{place}
 use Rattle.base.proofs.Loops.{place-hit-of, place-on-of, place-end-of}
-use Rattle.queue.specs.Queue.{isOf, noEntry}
+use Rattle.queue.specs.Queue.{isOf}
+use Rattle.queue.specs.Columns.{noEntry}
 use Rattle.queue.proofs.place_of.Statement.{statement}
 use Rattle.queue.proofs.place_of.Tie as tie
 

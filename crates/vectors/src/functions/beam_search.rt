@@ -4,9 +4,9 @@ use crate::queues;
 use crate::sheets;
 use crate::weights;
 use crate::words;
+use beam::BeamSearch;
 use objective::score::MatchObjective;
 use queue::Queue;
-use search::beam::BeamSearch;
 use seating::TeamComposition;
 use words::Cursor;
 

@@ -3,8 +3,8 @@ use crate::columns;
 use crate::queues;
 use crate::sheets;
 use crate::words;
+use greedy::GreedySearch;
 use queue::Queue;
-use search::greedy::GreedySearch;
 use seating::TeamComposition;
 use words::Cursor;
 

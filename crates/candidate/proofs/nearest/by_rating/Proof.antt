@@ -12,7 +12,7 @@ rising-requires : tie.Need-rising-requires
 rising-requires c κs = search needs
 
 returns : tie.Need-returns
-returns c = c .rising .ensures ∙ ap risingRule (c .before .ratings-of .ensures)
+returns c = c .rising .ensures .0 ∙ ap risingRule (c .before .ratings-of .ensures)
 
 pub by-rating-spec : {M : Type 1} → statement M
 by-rating-spec = tie.close (tie.spec ratings-of-requires rising-requires returns)

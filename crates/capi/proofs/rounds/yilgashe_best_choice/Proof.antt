@@ -17,13 +17,13 @@ use Rattle.capi.proofs.rounds.yilgashe_best_choice.Tie as tie
 has-no-kind-requires : tie.Need-has-no-kind-requires
 has-no-kind-requires c κs = search needs
 
-refused-requires : tie.Need-refused-requires
-refused-requires c κs = search needs
+unfound-requires : tie.Need-unfound-requires
+unfound-requires c κs = search needs
 
 returns : tie.Need-returns
 returns c =
-    let e = c .refused .ensures in
-    rw (sym (c .before .before .has-no-kind .ensures) ∙ c .before .if1 .taken) (none-chosen _ 1 (e .0) (e .1 .0) (e .1 .1))
+    let e = c .unfound .ensures in
+    rw (sym (c .before .before .has-no-kind .ensures) ∙ c .before .if1 .taken) (none-chosen _ (e .0) (e .1 .1 .0) 1 (e .1 .0) (e .1 .1 .1))
 
 constraints-of-requires : tie.Need-constraints-of-requires
 constraints-of-requires c κs = search needs
@@ -43,7 +43,7 @@ returns-2 c =
     let a = k .before .before .before .before .before .before .before .args in
     let r = ofRules (a .ids .now) (a .ratings .now) (a .parties .now) (a .roles .now) (a .regions .now) in
     let n = a .objectives .len in
-    let e = c .before .best-choice .ensures
+    let e = c .before .best-choice .ensures .outcome
     ∙ ap (λ (q : Constraints). choiceRule (terms r q (c .before .before .objectives .result) n) (a .sizes) (queueOf (a .queue))) (c .before .before .before .constraints-of .ensures)
     ∙ ap (λ (o : List SoftObjective). choiceRule (terms r (constraintsOf (a .constraints)) o n) (a .sizes) (queueOf (a .queue))) (c .before .before .objectives .ensures) in
     rw (sym (k .before .has-no-kind .ensures) ∙ k .if1 .left) (subst (λ (o : Outcome Selection). ChoiceNumbers o (c .in-numbers .result)) e (c .in-numbers .ensures))
@@ -53,7 +53,7 @@ yilgashe-best-choice-spec =
     tie.close
     (tie.spec
     has-no-kind-requires
-    refused-requires
+    unfound-requires
     returns
     constraints-of-requires
     objectives-requires

@@ -5,7 +5,7 @@ use Rattle.roster.specs.Roster.{ofRatings}
 use Rattle.objective.specs.declared.soft.SoftObjective.{SoftObjective}
 use Rattle.selection.specs.Selection.{SelectedState, lexicographicRule}
 use Rattle.capi.specs.Scores.{softsOf}
-use Rattle.capi.specs.Selections.{candidatesOf}
+use Rattle.capi.specs.Selections.{candidatesIn}
 use Rattle.capi.proofs.Choices.{by-rule, kinds-pass, kind-refused}
 use borrow.Author.Needs.{needs}
 use Rattle.capi.proofs.selections.yilgashe_select_lexicographic.Statement.{statement}
@@ -21,7 +21,7 @@ returns : tie.Need-returns
 returns c =
     let a = c .before .before .before .before .before .args in
     let s = a .objectives in
-    let rest = lexicographicRule (ofRatings (a .ids .now) (a .ratings .now)) (softsOf (s .kinds) (s .weights)) (s .len) (candidatesOf (a .candidates)) in
+    let rest = lexicographicRule (ofRatings (a .ids .now) (a .ratings .now)) (softsOf (s .kinds) (s .weights)) (s .len) (candidatesIn (a .candidates)) in
     kind-refused s rest (c .refused .result) (sym (c .before .before .has-no-kind .ensures) ∙ c .before .if1 .taken) (c .refused .ensures .0) (c .refused .ensures .1)
 
 objectives-requires : tie.Need-objectives-requires
@@ -36,7 +36,7 @@ selected-numbers-requires c κs = search needs
 returns-2 : tie.Need-returns-2
 returns-2 c =
     let a = c .before .before .before .before .before .before .before .before .args in
-    let softs = ap (λ (o : List SoftObjective). lexicographicRule (ofRatings (a .ids .now) (a .ratings .now)) o (a .objectives .len) (candidatesOf (a .candidates))) (c .before .before .before .objectives .ensures) in
+    let softs = ap (λ (o : List SoftObjective). lexicographicRule (ofRatings (a .ids .now) (a .ratings .now)) o (a .objectives .len) (candidatesIn (a .candidates))) (c .before .before .before .objectives .ensures) in
     let passed = kinds-pass (a .objectives) _ (sym (c .before .before .before .before .before .has-no-kind .ensures) ∙ c .before .before .before .before .if1 .left) in
     by-rule _ (ap (λ (s : SelectedState). s .places) (c .before .select .ensures) ∙ softs ∙ passed) (c .selected-numbers .ensures)
 

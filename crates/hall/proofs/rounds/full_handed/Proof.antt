@@ -56,7 +56,7 @@ choice-handed-requires c κs =
     let a = c .before .before .before .before .before .before .before .before .before .before .before .before .before .before .before .args in
     let r = ofRules (a .ids .now) (a .ratings .now) (a .parties .now) (a .roles .now) (a .regions .now) in
     let fits = held (a .sizes) (a .constraints) (a .count) r (a .clock) (length (a .players .now)) (length (a .qualities .now)) (c .before .before .before .before .before .enum-told .given .1) (c .before .before .before .before .before .before .before .check-full .ensures) in
-    ((omega (arith, fits .a, fits .b, fits .players-fit), omega (arith, fits .qualities-fit)), choice-seated (terms r (a .constraints) (a .objectives) (a .count)) (a .sizes) (queueOf (c .before .before .before .before .eligible .result)) _ (c .before .before .before .best-choice .ensures))
+    ((omega (arith, fits .a, fits .b, fits .players-fit), omega (arith, fits .qualities-fit)), choice-seated (terms r (a .constraints) (a .objectives) (a .count)) (a .sizes) (queueOf (c .before .before .before .before .eligible .result)) _ (c .before .before .before .best-choice .ensures .outcome))
 
 same-length : tie.Need-same-length
 same-length c = search needs
@@ -71,7 +71,7 @@ returns-2 c =
     let bs = a .bookings in
     let long = places (c .before .before .before .before .before .before .before .before .before .before .before .before .before .before .before .before .before .before .before .before) in
     let sheets : Sheets = record { players = a .players .now; qualities = a .qualities .now } in
-    full-given (a .sizes) (a .constraints) (a .objectives) (a .count) r (a .clock) sheets (take (a .n) bs) (at-most bs (a .n) long) _ (c .before .before .before .before .before .before .before .before .before .before .before .before .check-full .ensures) (c .before .before .before .before .before .before .before .before .before .before .enum-told .given .1) (c .before .before .before .before .before .before .before .before .before .eligible .ensures) (c .before .before .before .before .before .before .before .before .best-choice .ensures) (c .before .before .before .before .choice-handed .ensures)
+    full-given (a .sizes) (a .constraints) (a .objectives) (a .count) r (a .clock) sheets (take (a .n) bs) (at-most bs (a .n) long) _ (c .before .before .before .before .before .before .before .before .before .before .before .before .check-full .ensures) (c .before .before .before .before .before .before .before .before .before .before .enum-told .given .1) (c .before .before .before .before .before .before .before .before .before .eligible .ensures) (c .before .before .before .before .before .before .before .before .best-choice .ensures .outcome) (c .before .before .before .before .choice-handed .ensures)
 
 pub full-handed-spec : {M : Type 1} → statement M
 full-handed-spec =

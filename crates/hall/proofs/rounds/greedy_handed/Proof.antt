@@ -8,8 +8,8 @@ use Rattle.base.proofs.Arrays.{unmapped}
 use Rattle.queue.specs.Queue.{queueOf}
 use Rattle.roster.specs.Roster.{ofRatings}
 use Rattle.seating.specs.Seating.{Sheets}
-use Rattle.search.proofs.Checked.{passed-check}
-use Rattle.hall.proofs.RoundLaws.{greedy-refused, greedy-late, greedy-search-refused, greedy-fits, greedy-given}
+use Rattle.greedy.proofs.Checked.{passed-check}
+use Rattle.hall.proofs.RoundLaws.{greedy-refused, greedy-clock, greedy-search-refused, greedy-fits, greedy-given}
 use Rattle.hall.proofs.WaitLaws.{at-most}
 use Rattle.hall.proofs.rounds.greedy_handed.Statement.{statement}
 use Rattle.hall.proofs.rounds.greedy_handed.Tie as tie
@@ -46,8 +46,8 @@ returns c =
 enum-told : tie.Need-enum-told
 enum-told c = search needs
 
-is-late-requires : tie.Need-is-late-requires
-is-late-requires c κs = search needs
+is-over-requires : tie.Need-is-over-requires
+is-over-requires c κs = search needs
 
 refuses-requires-2 : tie.Need-refuses-requires-2
 refuses-requires-2 c κs = search needs
@@ -59,7 +59,7 @@ returns-2 c =
     let long = places (c .before .before .before .before .before .before .before .before .before .before .before) in
     let r = ofRatings (a .ids .now) (a .ratings .now) in
     let sheets : Sheets = record { players = a .players .now; qualities = a .qualities .now } in
-    greedy-late (take (a .n) bs) (at-most bs (a .n) long) _ (c .before .before .before .before .before .before .eligible .ensures) (a .sizes) r (a .clock) sheets _ (c .before .before .before .before .before .check .ensures) (c .before .before .before .enum-told .given .1) (sym (c .before .before .is-late .ensures) ∙ c .before .if1 .taken) (c .refuses2 .ensures)
+    greedy-clock (take (a .n) bs) (at-most bs (a .n) long) _ (c .before .before .before .before .before .before .eligible .ensures) (a .sizes) r (a .clock) sheets _ (c .before .before .before .before .before .check .ensures) (c .before .before .before .enum-told .given .1) (sym (c .before .before .is-over .ensures) ∙ c .before .if1 .taken) (c .refuses2 .ensures)
 
 add-each : tie.Need-add-each
 add-each c =
@@ -105,7 +105,7 @@ returns-3 c =
     let long = places (c .before .before .before .before .before .before .before .before .before .before .before .before .before .before .before .before .before .before .before .before .before .before) in
     let r = ofRatings (a .ids .now) (a .ratings .now) in
     let sheets : Sheets = record { players = a .players .now; qualities = a .qualities .now } in
-    greedy-search-refused (take (a .n) bs) (at-most bs (a .n) long) _ (c .before .before .before .before .before .before .before .before .before .before .before .before .before .before .before .before .before .eligible .ensures) (a .sizes) r (a .clock) sheets _ (c .before .before .before .before .before .before .before .before .before .before .before .before .before .before .before .before .check .ensures) (c .before .before .before .before .before .before .before .before .before .before .before .before .before .before .enum-told .given .1) _ (c .before .before .before .before .before .before .before .before .search .ensures) (sym (c .before .before .before .before .before .before .before .before .before .before .before .before .before .is-late .ensures) ∙ c .before .before .before .before .before .before .before .before .before .before .before .before .if1 .left) _ (c .before .before .formed .given .1) (c .refuses3 .ensures)
+    greedy-search-refused (take (a .n) bs) (at-most bs (a .n) long) _ (c .before .before .before .before .before .before .before .before .before .before .before .before .before .before .before .before .before .eligible .ensures) (a .sizes) r (a .clock) sheets _ (c .before .before .before .before .before .before .before .before .before .before .before .before .before .before .before .before .check .ensures) (c .before .before .before .before .before .before .before .before .before .before .before .before .before .before .enum-told .given .1) _ (c .before .before .before .before .before .before .before .before .search .ensures) (sym (c .before .before .before .before .before .before .before .before .before .before .before .before .before .is-over .ensures) ∙ c .before .before .before .before .before .before .before .before .before .before .before .before .if1 .left) _ (c .before .before .formed .given .1) (c .refuses3 .ensures)
 
 same-length-3 : tie.Need-same-length-3
 same-length-3 c = search needs
@@ -120,7 +120,7 @@ returns-4 c =
     let long = places (c .before .before .before .before .before .before .before .before .before .before .before .before .before .before .before .before .before .before .before .before .before) in
     let r = ofRatings (a .ids .now) (a .ratings .now) in
     let sheets : Sheets = record { players = a .players .now; qualities = a .qualities .now } in
-    greedy-given (take (a .n) bs) (at-most bs (a .n) long) _ (c .before .before .before .before .before .before .before .before .before .before .before .before .before .before .before .before .eligible .ensures) (a .sizes) r (a .clock) sheets _ (c .before .before .before .before .before .before .before .before .before .before .before .before .before .before .before .check .ensures) (c .before .before .before .before .before .before .before .before .before .before .before .before .before .enum-told .given .1) _ (c .before .before .before .before .before .before .before .search .ensures) _ (c .before .formed2 .given .1) (sym (c .before .before .before .before .before .before .before .before .before .before .before .before .is-late .ensures) ∙ c .before .before .before .before .before .before .before .before .before .before .before .if1 .left)
+    greedy-given (take (a .n) bs) (at-most bs (a .n) long) _ (c .before .before .before .before .before .before .before .before .before .before .before .before .before .before .before .before .eligible .ensures) (a .sizes) r (a .clock) sheets _ (c .before .before .before .before .before .before .before .before .before .before .before .before .before .before .before .check .ensures) (c .before .before .before .before .before .before .before .before .before .before .before .before .before .enum-told .given .1) _ (c .before .before .before .before .before .before .before .search .ensures) _ (c .before .formed2 .given .1) (sym (c .before .before .before .before .before .before .before .before .before .before .before .before .is-over .ensures) ∙ c .before .before .before .before .before .before .before .before .before .before .before .if1 .left)
 
 pub greedy-handed-spec : {M : Type 1} → statement M
 greedy-handed-spec =
@@ -132,7 +132,7 @@ greedy-handed-spec =
     refuses-requires
     returns
     enum-told
-    is-late-requires
+    is-over-requires
     refuses-requires-2
     returns-2
     add-each

@@ -1,7 +1,8 @@
 -- `ProposedMatch::seated_players` meets its contract: team A at the front, team B behind it.
-use mathlib.Core.Path.{_≡_}
+use mathlib.Core.Path.{_≡_, _∙_}
 use native.Mathlib.Omega.{arith}
 use lib.ListN.{length, take, replicate}
+use Rattle.base.specs.Sheets.{laid}
 use Rattle.base.proofs.Arrays.{unmapped, held-fits}
 use Rattle.matchmaker.proofs.Rows.{seated-both}
 use borrow.Author.Needs.{needs}
@@ -26,7 +27,11 @@ returns c =
     let m = c .before .before .before .before .before .args .self in
     let a = take (m .a .len) (m .a .players) in
     let b = take (m .b .len) (m .b .players) in
-    seated-both a b (replicate 16 0) (c .before .before .seat .result) (c .seat2 .result) (c .before .held .ensures) (c .before .before .seat .ensures) (c .seat2 .ensures)
+    let f = c .before .before .seat .ensures in
+    let s = c .seat2 .ensures in (
+      seated-both a b (replicate 16 0) (c .before .before .seat .result) (c .seat2 .result) (c .before .held .ensures) (f .0) (s .0),
+      s .1 ∙ (λ j. laid (f .1 j) (c .before .held .ensures j) (m .b .players)),
+    )
 
 pub seated-players-spec : {M : Type 1} → statement M
 seated-players-spec = tie.close (tie.spec seat-requires held-requires seat-requires-2 returns)

@@ -8,14 +8,14 @@ use Rattle.queue.proofs.Queue.check.Tie as tie
 returns : tie.Need-returns
 returns c = rw (lt-ltb _ _ (c .if1 .taken))
 
-any-late-requires : tie.Need-any-late-requires
-any-late-requires c κs = search needs
+any-joined-over-requires : tie.Need-any-joined-over-requires
+any-joined-over-requires c κs = search needs
 
 returns-2 : tie.Need-returns-2
-returns-2 c = rw (le-ltb _ _ (c .before .before .before .if1 .left), sym (c .before .any-late .ensures) ∙ c .if2 .taken)
+returns-2 c = rw (le-ltb _ _ (c .before .before .before .if1 .left), sym (c .before .any-joined-over .ensures) ∙ c .if2 .taken)
 
 returns-3 : tie.Need-returns-3
-returns-3 c = rw (le-ltb _ _ (c .before .before .before .if1 .left), sym (c .before .any-late .ensures) ∙ c .if2 .left)
+returns-3 c = rw (le-ltb _ _ (c .before .before .before .if1 .left), sym (c .before .any-joined-over .ensures) ∙ c .if2 .left)
 
 pub check-spec : {M : Type 1} → statement M
-check-spec = tie.close (tie.spec returns any-late-requires returns-2 returns-3)
+check-spec = tie.close (tie.spec returns any-joined-over-requires returns-2 returns-3)

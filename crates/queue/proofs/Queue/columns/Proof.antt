@@ -6,7 +6,7 @@ use mathlib.Core.List.{map}
 use Prim.Native.Nat.{_-_, _≤_}
 use lib.ListN.{length, take, length-set}
 use Rattle.base.proofs.Arrays.{fill-on, filled, unmapped}
-use Rattle.queue.specs.Queue.{noEntry}
+use Rattle.queue.specs.Columns.{noEntry}
 use Rattle.queue.specs.declared.QueueEntry.{QueueEntry}
 use Rattle.queue.proofs.Queue.columns.Statement.{statement}
 use Rattle.queue.proofs.Queue.columns.Tie as tie

@@ -11,17 +11,17 @@ use Rattle.queue.proofs.Queue.enqueue.Tie as tie
 returns : tie.Need-returns
 returns c = rw (le-leb 64 (c .before .args .self .len) (omega arith))
 
-is-late-requires : tie.Need-is-late-requires
-is-late-requires c κs = search needs
+is-over-requires : tie.Need-is-over-requires
+is-over-requires c κs = search needs
 
 returns-2 : tie.Need-returns-2
-returns-2 c = rw (lt-leb 64 (c .before .before .before .before .args .self .len) (omega arith), sym (c .before .is-late .ensures) ∙ c .if2 .taken)
+returns-2 c = rw (lt-leb 64 (c .before .before .before .before .args .self .len) (omega arith), sym (c .before .is-over .ensures) ∙ c .if2 .taken)
 
-any-late-requires : tie.Need-any-late-requires
-any-late-requires c κs = search needs
+any-joined-over-requires : tie.Need-any-joined-over-requires
+any-joined-over-requires c κs = search needs
 
 returns-3 : tie.Need-returns-3
-returns-3 c = rw (lt-leb 64 (c .before .before .before .before .before .before .args .self .len) (omega arith), sym (c .before .before .before .is-late .ensures) ∙ c .before .before .if2 .left, sym (c .before .any-late .ensures) ∙ c .if3 .taken)
+returns-3 c = rw (lt-leb 64 (c .before .before .before .before .before .before .args .self .len) (omega arith), sym (c .before .before .before .is-over .ensures) ∙ c .before .before .if2 .left, sym (c .before .any-joined-over .ensures) ∙ c .if3 .taken)
 
 mul-entry : tie.Need-mul-entry
 mul-entry c = search needs
@@ -35,16 +35,16 @@ add-longer c = search needs
 returns-4 : tie.Need-returns-4
 returns-4 c =
     let q = c .before .before .before .before .before .before .args .self in
-    appended (q .entries) (q .len) _ (search (unmapped, needs)) (omega arith) (sym (c .before .before .before .is-late .ensures) ∙ c .before .before .if2 .left) (sym (c .before .any-late .ensures) ∙ c .if3 .left)
+    appended (q .entries) (q .len) _ (search (unmapped, needs)) (omega arith) (sym (c .before .before .before .is-over .ensures) ∙ c .before .before .if2 .left) (sym (c .before .any-joined-over .ensures) ∙ c .if3 .left)
 
 pub enqueue-spec : {M : Type 1} → statement M
 enqueue-spec =
     tie.close
     (tie.spec
     returns
-    is-late-requires
+    is-over-requires
     returns-2
-    any-late-requires
+    any-joined-over-requires
     returns-3
     mul-entry
     element-set-from-entry

@@ -12,20 +12,20 @@ empty-requires c κs = search needs
 returns : tie.Need-returns
 returns c = rw (lt-ltb _ _ (c .before .if1 .taken)) (nobody-removed _ _ _ (c .empty .ensures))
 
-any-late-requires : tie.Need-any-late-requires
-any-late-requires c κs = search needs
+any-joined-over-requires : tie.Need-any-joined-over-requires
+any-joined-over-requires c κs = search needs
 
 empty-requires-2 : tie.Need-empty-requires-2
 empty-requires-2 c κs = search needs
 
 returns-2 : tie.Need-returns-2
-returns-2 c = rw (le-ltb _ _ (c .before .before .before .before .if1 .left), sym (c .before .before .any-late .ensures) ∙ c .before .if2 .taken) (nobody-removed _ _ _ (c .empty2 .ensures))
+returns-2 c = rw (le-ltb _ _ (c .before .before .before .before .if1 .left), sym (c .before .before .any-joined-over .ensures) ∙ c .before .if2 .taken) (nobody-removed _ _ _ (c .empty2 .ensures))
 
 take-all-requires : tie.Need-take-all-requires
 take-all-requires c κs = search needs
 
 returns-3 : tie.Need-returns-3
-returns-3 c = rw (le-ltb _ _ (c .before .before .before .before .if1 .left), sym (c .before .before .any-late .ensures) ∙ c .before .if2 .left) (c .take-all .ensures)
+returns-3 c = rw (le-ltb _ _ (c .before .before .before .before .if1 .left), sym (c .before .before .any-joined-over .ensures) ∙ c .before .if2 .left) (c .take-all .ensures)
 
 pub remove-batch-spec : {M : Type 1} → statement M
 remove-batch-spec =
@@ -33,7 +33,7 @@ remove-batch-spec =
     (tie.spec
     empty-requires
     returns
-    any-late-requires
+    any-joined-over-requires
     empty-requires-2
     returns-2
     take-all-requires

@@ -8,7 +8,8 @@ use lib.ListN.{length, take, drop, length-set}
 use mathlib.Core.Bool.{not}
 use Rattle.base.proofs.Arrays.{unmapped}
 use Rattle.base.proofs.Loops.{keep-on-of, keep-skip-of}
-use Rattle.queue.specs.Queue.{noEntry, isOfAny, withoutAll, ofAll}
+use Rattle.queue.specs.Columns.{noEntry}
+use Rattle.queue.specs.Queue.{isOfAny, withoutAll, ofAll}
 use Rattle.queue.proofs.Laws.{parted}
 use Rattle.queue.proofs.Queue.take_all.Statement.{statement}
 use Rattle.queue.proofs.Queue.take_all.Tie as tie

@@ -4,19 +4,19 @@ use mathlib.Core.Path.{sym, _∙_}
 use Rattle.queue.proofs.time.duration_since.Statement.{statement}
 use Rattle.queue.proofs.time.duration_since.Tie as tie
 
-is-late-requires : tie.Need-is-late-requires
-is-late-requires c κs = search needs
+is-over-requires : tie.Need-is-over-requires
+is-over-requires c κs = search needs
 
 returns : tie.Need-returns
-returns c = rw (sym (c .before .is-late .ensures) ∙ c .if1 .taken)
+returns c = rw (sym (c .before .is-over .ensures) ∙ c .if1 .taken)
 
-is-late-requires-2 : tie.Need-is-late-requires-2
-is-late-requires-2 c κs = search needs
+is-over-requires-2 : tie.Need-is-over-requires-2
+is-over-requires-2 c κs = search needs
 
 returns-2 : tie.Need-returns-2
 returns-2 c =
     let k = c .before .before in
-    rw (sym (k .before .is-late .ensures) ∙ k .if1 .left, sym (c .before .is-late2 .ensures) ∙ c .if2 .taken)
+    rw (sym (k .before .is-over .ensures) ∙ k .if1 .left, sym (c .before .is-over2 .ensures) ∙ c .if2 .taken)
 
 elapsed-requires : tie.Need-elapsed-requires
 elapsed-requires c κs = search needs
@@ -24,9 +24,9 @@ elapsed-requires c κs = search needs
 returns-3 : tie.Need-returns-3
 returns-3 c =
     let k = c .before .before .before in
-    rw (sym (k .before .is-late .ensures) ∙ k .if1 .left, sym (c .before .before .is-late2 .ensures) ∙ c .before .if2 .left, c .elapsed .ensures)
+    rw (sym (k .before .is-over .ensures) ∙ k .if1 .left, sym (c .before .before .is-over2 .ensures) ∙ c .before .if2 .left, c .elapsed .ensures)
 
 pub duration-since-spec : {M : Type 1} → statement M
 duration-since-spec =
     tie.close
-    (tie.spec is-late-requires returns is-late-requires-2 returns-2 elapsed-requires returns-3)
+    (tie.spec is-over-requires returns is-over-requires-2 returns-2 elapsed-requires returns-3)

@@ -1,8 +1,4 @@
 -- `Matches::hand_out` meets its contract: what its four callees say, put together.
-use mathlib.Core.Path.{_≡_, ap, _∙_}
-use lib.Ieee.{Float}
-use mathlib.Core.List.{List}
-use Rattle.seating.specs.Steps.{overlaid}
 use borrow.Author.Needs.{needs}
 use Rattle.seating.proofs.Matches.hand_out.Statement.{statement}
 use Rattle.seating.proofs.Matches.hand_out.Tie as tie

@@ -5,14 +5,14 @@ use native.Mathlib.Omega.{arith}
 use lib.Ieee.{nan}
 use lib.ListN.{take, drop, getD}
 use Rattle.base.specs.Ranking.{lastBest}
-use Rattle.ranking.specs.Order.{ranked, scoreOf, numbered}
+use Rattle.ranking.specs.Order.{ranked, rankedScore, numbered}
 use Rattle.selection.proofs.Laws.{best-stays, best-turns, best-end}
 use borrow.Author.Needs.{needs}
 use Rattle.selection.proofs.greedy.last_best.Statement.{statement}
 use Rattle.selection.proofs.greedy.last_best.Tie as tie
 
 abbrev Inv-loop : tie.InvT-loop
-Inv-loop n scores best₀ i₀ best i = (best < n) × (i ≤ n) × (lastBest scoreOf (ranked best (getD scores best nan)) (numbered i (drop i (take n scores))) ≡ lastBest scoreOf (ranked 0 (getD scores 0 nan)) (numbered 1 (drop 1 (take n scores))))
+Inv-loop n scores best₀ i₀ best i = (best < n) × (i ≤ n) × (lastBest rankedScore (ranked best (getD scores best nan)) (numbered i (drop i (take n scores))) ≡ lastBest rankedScore (ranked 0 (getD scores 0 nan)) (numbered 1 (drop 1 (take n scores))))
 
 abbrev μ-loop : tie.MeasureT-loop
 μ-loop n scores best₀ i₀ best i = n - i

@@ -12,7 +12,7 @@ use Rattle.base.specs.Lists.{keep}
 use Rattle.base.proofs.Loops.{keep-on-of, keep-skip-of, keep-end-of}
 use Rattle.roster.specs.Roster.{ofRatings}
 use Rattle.selection.specs.Selection.{valueOf}
-use Rattle.selection.specs.Steps.{keptOf}
+use Rattle.selection.specs.Steps.{stillInOf}
 use Rattle.selection.proofs.Laws.{keep-map}
 use borrow.Author.Needs.{needs}
 use Rattle.selection.proofs.lexicographic.at_least.Statement.{statement}
@@ -20,7 +20,7 @@ use Rattle.selection.proofs.lexicographic.at_least.Tie as tie
 
 -- is the candidate's value at least the bound?
 abbrev reaches : Float → SoftObjective → List ℕ → List Float → Candidate → Bool
-reaches bound objective ids ratings candidate = le bound (valueOf (ofRatings ids ratings) objective (keptOf candidate))
+reaches bound objective ids ratings candidate = le bound (valueOf (ofRatings ids ratings) objective (stillInOf candidate))
 
 abbrev Inv-loop : tie.InvT-loop
 Inv-loop bound objective n ids ratings kept out₀ k₀ i₀ out k i = (i ≤ n) × (k ≤ i) × (length out ≡ 64) × (take k out ++ keep (reaches bound objective ids ratings) (drop i (take n kept)) ≡ keep (reaches bound objective ids ratings) (take n kept))
@@ -80,8 +80,8 @@ returns c =
     let s = c .before .before .before .before .args in
     let l = c .before .loop in
     let r = ofRatings (s .ids .now) (s .ratings .now) in (
-      ap (map keptOf) (keep-end-of (reaches (s .bound) (s .objective) (s .ids .now) (s .ratings .now)) (s .t3) (s .n) (l .out) (l .k) (l .i) (omega arith) (l .inv .3) (omega arith) (omega arith))
-          ∙ keep-map keptOf (λ k. le (s .bound) (valueOf r (s .objective) k)) (take (s .n) (s .t3)),
+      ap (map stillInOf) (keep-end-of (reaches (s .bound) (s .objective) (s .ids .now) (s .ratings .now)) (s .t3) (s .n) (l .out) (l .k) (l .i) (omega arith) (l .inv .3) (omega arith) (omega arith))
+          ∙ keep-map stillInOf (λ k. le (s .bound) (valueOf r (s .objective) k)) (take (s .n) (s .t3)),
       omega arith,
     )
 

@@ -10,7 +10,7 @@ use lib.ListN.{take, drop}
 use Rattle.base.proofs.Loops.{fold-on-of}
 use Rattle.roster.specs.Roster.{ofRatings}
 use Rattle.selection.specs.Selection.{maxOf, highestOf, valueOf}
-use Rattle.selection.specs.Steps.{keptOf}
+use Rattle.selection.specs.Steps.{stillInOf}
 use Rattle.selection.proofs.Laws.{fold-over, fold-map, lowest}
 use borrow.Author.Needs.{needs}
 use Rattle.selection.proofs.lexicographic.highest.Statement.{statement}
@@ -18,7 +18,7 @@ use Rattle.selection.proofs.lexicographic.highest.Tie as tie
 
 -- the higher of the best so far and a candidate's value
 abbrev step : SoftObjective → List ℕ → List Float → Float → Candidate → Float
-step objective ids ratings best candidate = maxOf best (valueOf (ofRatings ids ratings) objective (keptOf candidate))
+step objective ids ratings best candidate = maxOf best (valueOf (ofRatings ids ratings) objective (stillInOf candidate))
 
 abbrev Inv-loop : tie.InvT-loop
 Inv-loop objective n ids ratings kept best₀ i₀ best i = (i ≤ n) × (foldl (step objective ids ratings) best (drop i (take n kept)) ≡ foldl (step objective ids ratings) best₀ (take n kept))
@@ -61,8 +61,8 @@ returns c =
     sym (fold-over (step (s .objective) (s .ids .now) (s .ratings .now)) (s .t2) (s .n) (l .i) (omega arith) (l .best) (omega arith) (omega arith))
     ∙ l .inv .1
     ∙ ap (λ (b : Float). foldl (step (s .objective) (s .ids .now) (s .ratings .now)) b (take (s .n) (s .t2))) lowest
-    ∙ fold-map (λ k. valueOf r (s .objective) (keptOf k)) maxOf _ (take (s .n) (s .t2))
-    ∙ ap highestOf (sym (map-map (valueOf r (s .objective)) keptOf (take (s .n) (s .t2))))
+    ∙ fold-map (λ k. valueOf r (s .objective) (stillInOf k)) maxOf _ (take (s .n) (s .t2))
+    ∙ ap highestOf (sym (map-map (valueOf r (s .objective)) stillInOf (take (s .n) (s .t2))))
 
 pub highest-spec : {M : Type 1} → statement M
 highest-spec =

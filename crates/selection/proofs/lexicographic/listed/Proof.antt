@@ -6,14 +6,14 @@ use native.Mathlib.Omega.{arith}
 use lib.ListN.{length, take, drop, length-set}
 use Rattle.matchmaker.specs.Quality.{matchOf}
 use Rattle.selection.specs.Selection.{placed}
-use Rattle.selection.specs.Steps.{keptOf}
+use Rattle.selection.specs.Steps.{stillInOf}
 use Rattle.selection.proofs.Laws.{listed-on, listed-end}
 use borrow.Author.Needs.{needs}
 use Rattle.selection.proofs.lexicographic.listed.Statement.{statement}
 use Rattle.selection.proofs.lexicographic.listed.Tie as tie
 
 abbrev Inv-loop : tie.InvT-loop
-Inv-loop n candidates kept₀ i₀ kept i = (i ≤ n) × (length kept ≡ 64) × (map keptOf (take i kept) ++ placed i (map matchOf (drop i (take n candidates))) ≡ placed 0 (map matchOf (take n candidates)))
+Inv-loop n candidates kept₀ i₀ kept i = (i ≤ n) × (length kept ≡ 64) × (map stillInOf (take i kept) ++ placed i (map matchOf (drop i (take n candidates))) ≡ placed 0 (map matchOf (take n candidates)))
 
 abbrev μ-loop : tie.MeasureT-loop
 μ-loop n candidates kept₀ i₀ kept i = n - i
@@ -53,7 +53,7 @@ returns c =
     let s = c .before .before .before .args in
     let l = c .before .loop in
     let e : s .n ≡ l .i = omega arith in
-    (ap (λ (k : ℕ). map keptOf (take k (l .kept))) e ∙ listed-end (s .t1) (s .n) (l .i) (omega arith) (l .kept) (l .inv .2) (omega arith) (omega arith), omega arith)
+    (ap (λ (k : ℕ). map stillInOf (take k (l .kept))) e ∙ listed-end (s .t1) (s .n) (l .i) (omega arith) (l .kept) (l .inv .2) (omega arith) (omega arith), omega arith)
 
 pub listed-spec : {M : Type 1} → statement M
 listed-spec =

@@ -5,7 +5,7 @@ use mathlib.Core.List.{map, map-map}
 use native.Mathlib.Omega.{arith}
 use lib.ListN.{length, take, length-map, length-set}
 use Rattle.base.proofs.Arrays.{fill-on, unmapped}
-use Rattle.selection.specs.Steps.{keptOf}
+use Rattle.selection.specs.Steps.{stillInOf}
 use Rattle.selection.proofs.Laws.{counted, listed-length}
 use borrow.Author.Needs.{needs}
 use Rattle.selection.proofs.lexicographic.places_of.Statement.{statement}
@@ -51,9 +51,9 @@ returns c =
     let l = c .before .loop in
     let w : length (o .candidates) ≡ 64 = search (unmapped, needs) in
     let e : o .len ≡ l .i = omega arith in
-    counted (sym (length-map (map keptOf (take (o .len) (o .candidates))) (λ k. k .place) ∙ listed-length (o .candidates) (o .len) (omega arith)))
+    counted (sym (length-map (map stillInOf (take (o .len) (o .candidates))) (λ k. k .place) ∙ listed-length (o .candidates) (o .len) (omega arith)))
     (ap (λ (k : ℕ). take k (l .places)) e ∙ l .inv .2 ∙ ap (λ (k : ℕ). map (λ x. x .place) (take k (o .candidates))) (sym e)
-    ∙ sym (map-map (λ k. k .place) keptOf (take (o .len) (o .candidates))))
+    ∙ sym (map-map (λ k. k .place) stillInOf (take (o .len) (o .candidates))))
 
 pub places-of-spec : {M : Type 1} → statement M
 places-of-spec =

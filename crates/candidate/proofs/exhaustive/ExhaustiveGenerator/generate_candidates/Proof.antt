@@ -29,20 +29,20 @@ returns-2 c =
     refuses-1 (s .sizes) (queueOf (s .queue)) (record { players = s .players .now; qualities = s .qualities .now })
     (by-second (sizesOver (s .sizes)) (le-ltb 64 (s .queue .len) (c .before .before .if1 .left)) (sym (c .before .is-over .ensures) ∙ c .if2 .taken))
 
-has-late-requires : tie.Need-has-late-requires
-has-late-requires c κs = search needs
+has-joined-over-requires : tie.Need-has-joined-over-requires
+has-joined-over-requires c κs = search needs
 
 returns-3 : tie.Need-returns-3
 returns-3 c =
     let s = c .before .before .before .before .before .before .before .args in
-    refuses-4 (s .sizes) (queueOf (s .queue)) (record { players = s .players .now; qualities = s .qualities .now }) (by-second (sizesOver (s .sizes)) (le-ltb 64 (s .queue .len) (c .before .before .before .before .if1 .left)) (sym (c .before .before .before .is-over .ensures) ∙ c .before .before .if2 .left)) (sym (c .before .has-late .ensures) ∙ c .if3 .taken)
+    refuses-4 (s .sizes) (queueOf (s .queue)) (record { players = s .players .now; qualities = s .qualities .now }) (by-second (sizesOver (s .sizes)) (le-ltb 64 (s .queue .len) (c .before .before .before .before .if1 .left)) (sym (c .before .before .before .is-over .ensures) ∙ c .before .before .if2 .left)) (sym (c .before .has-joined-over .ensures) ∙ c .if3 .taken)
 
 returns-4 : tie.Need-returns-4
 returns-4 c =
     let s = c .before .before .before .before .before .before .before .before .args in
     let w : length (s .queue .entries) ≡ 64 = search (unmapped, needs) in
     let f : s .queue .len ≤ length (s .queue .entries) = omega (arith, w, c .before .before .before .before .before .if1 .left) in
-    refuses-6 (s .sizes) (queueOf (s .queue)) (record { players = s .players .now; qualities = s .qualities .now }) (by-second (sizesOver (s .sizes)) (le-ltb 64 (s .queue .len) (c .before .before .before .before .before .if1 .left)) (sym (c .before .before .before .before .is-over .ensures) ∙ c .before .before .before .if2 .left)) (sym (c .before .before .has-late .ensures) ∙ c .before .if3 .left) (wide (s .queue .entries) (s .queue .len) f (omega (arith, c .if4 .taken)))
+    refuses-6 (s .sizes) (queueOf (s .queue)) (record { players = s .players .now; qualities = s .qualities .now }) (by-second (sizesOver (s .sizes)) (le-ltb 64 (s .queue .len) (c .before .before .before .before .before .if1 .left)) (sym (c .before .before .before .before .is-over .ensures) ∙ c .before .before .before .if2 .left)) (sym (c .before .before .has-joined-over .ensures) ∙ c .before .if3 .left) (wide (s .queue .entries) (s .queue .len) f (omega (arith, c .if4 .taken)))
 
 add-seats : tie.Need-add-seats
 add-seats c =
@@ -63,7 +63,7 @@ returns-5 c =
     let s = c .before .before .before .before .before .before .before .before .before .before .before .args in
     let w : length (s .queue .entries) ≡ 64 = search (unmapped, needs) in
     let f : s .queue .len ≤ length (s .queue .entries) = omega (arith, w, c .before .before .before .before .before .before .before .before .if1 .left) in
-    refuses-3 (s .sizes) (queueOf (s .queue)) (record { players = s .players .now; qualities = s .qualities .now }) (by-second (sizesOver (s .sizes)) (le-ltb 64 (s .queue .len) (c .before .before .before .before .before .before .before .before .if1 .left)) (sym (c .before .before .before .before .before .before .before .is-over .ensures) ∙ c .before .before .before .before .before .before .if2 .left)) (sym (c .before .before .before .before .before .has-late .ensures) ∙ c .before .before .before .before .if3 .left) (not-wide (s .queue .entries) (s .queue .len) f (c .before .before .before .if4 .left))
+    refuses-3 (s .sizes) (queueOf (s .queue)) (record { players = s .players .now; qualities = s .qualities .now }) (by-second (sizesOver (s .sizes)) (le-ltb 64 (s .queue .len) (c .before .before .before .before .before .before .before .before .if1 .left)) (sym (c .before .before .before .before .before .before .before .is-over .ensures) ∙ c .before .before .before .before .before .before .if2 .left)) (sym (c .before .before .before .before .before .has-joined-over .ensures) ∙ c .before .before .before .before .if3 .left) (not-wide (s .queue .entries) (s .queue .len) f (c .before .before .before .if4 .left))
     (short-players (s .sizes) (s .queue .entries) (s .queue .len) f (s .players .now) (s .qualities .now) (c .before .ways .ensures) (c .if5 .taken))
 
 returns-6 : tie.Need-returns-6
@@ -71,7 +71,7 @@ returns-6 c =
     let s = c .before .before .before .before .before .before .before .before .before .before .before .before .args in
     let w : length (s .queue .entries) ≡ 64 = search (unmapped, needs) in
     let f : s .queue .len ≤ length (s .queue .entries) = omega (arith, w, c .before .before .before .before .before .before .before .before .before .if1 .left) in
-    refuses-3 (s .sizes) (queueOf (s .queue)) (record { players = s .players .now; qualities = s .qualities .now }) (by-second (sizesOver (s .sizes)) (le-ltb 64 (s .queue .len) (c .before .before .before .before .before .before .before .before .before .if1 .left)) (sym (c .before .before .before .before .before .before .before .before .is-over .ensures) ∙ c .before .before .before .before .before .before .before .if2 .left)) (sym (c .before .before .before .before .before .before .has-late .ensures) ∙ c .before .before .before .before .before .if3 .left) (not-wide (s .queue .entries) (s .queue .len) f (c .before .before .before .before .if4 .left))
+    refuses-3 (s .sizes) (queueOf (s .queue)) (record { players = s .players .now; qualities = s .qualities .now }) (by-second (sizesOver (s .sizes)) (le-ltb 64 (s .queue .len) (c .before .before .before .before .before .before .before .before .before .if1 .left)) (sym (c .before .before .before .before .before .before .before .before .is-over .ensures) ∙ c .before .before .before .before .before .before .before .if2 .left)) (sym (c .before .before .before .before .before .before .has-joined-over .ensures) ∙ c .before .before .before .before .before .if3 .left) (not-wide (s .queue .entries) (s .queue .len) f (c .before .before .before .before .if4 .left))
     (short-qualities (s .sizes) (s .queue .entries) (s .queue .len) f (s .players .now) (s .qualities .now) (c .before .before .ways .ensures) (c .before .if5 .left) (c .if6 .taken))
 
 players-requires : tie.Need-players-requires
@@ -106,7 +106,7 @@ returns-7 c =
     let v = c .before .before .before .before .before .before .before .before .before .before .before .before .before .ways .ensures in
     let p = c .before .before .before .before .before .before .before .before .before .before .before .before .if5 .left in
     let q = c .before .before .before .before .before .before .before .before .before .before .before .if6 .left in
-    lists (s .sizes) (queueOf (s .queue)) (record { players = s .players .now; qualities = s .qualities .now }) (by-second (sizesOver (s .sizes)) (le-ltb 64 (s .queue .len) (c .before .before .before .before .before .before .before .before .before .before .before .before .before .before .before .before .before .before .before .before .if1 .left)) (sym (c .before .before .before .before .before .before .before .before .before .before .before .before .before .before .before .before .before .before .before .is-over .ensures) ∙ c .before .before .before .before .before .before .before .before .before .before .before .before .before .before .before .before .before .before .if2 .left)) (sym (c .before .before .before .before .before .before .before .before .before .before .before .before .before .before .before .before .before .has-late .ensures) ∙ c .before .before .before .before .before .before .before .before .before .before .before .before .before .before .before .before .if3 .left) (not-wide (s .queue .entries) (s .queue .len) f (c .before .before .before .before .before .before .before .before .before .before .before .before .before .before .before .if4 .left))
+    lists (s .sizes) (queueOf (s .queue)) (record { players = s .players .now; qualities = s .qualities .now }) (by-second (sizesOver (s .sizes)) (le-ltb 64 (s .queue .len) (c .before .before .before .before .before .before .before .before .before .before .before .before .before .before .before .before .before .before .before .before .if1 .left)) (sym (c .before .before .before .before .before .before .before .before .before .before .before .before .before .before .before .before .before .before .before .is-over .ensures) ∙ c .before .before .before .before .before .before .before .before .before .before .before .before .before .before .before .before .before .before .if2 .left)) (sym (c .before .before .before .before .before .before .before .before .before .before .before .before .before .before .before .before .before .has-joined-over .ensures) ∙ c .before .before .before .before .before .before .before .before .before .before .before .before .before .before .before .before .if3 .left) (not-wide (s .queue .entries) (s .queue .len) f (c .before .before .before .before .before .before .before .before .before .before .before .before .before .before .before .if4 .left))
     (not-short (s .sizes) (s .queue .entries) (s .queue .len) f (s .players .now) (s .qualities .now) v p q)
     (walked (s .sizes) (s .queue .entries) (s .queue .len) f (s .players .now) (s .qualities .now) v p q (sizes-in (s .sizes) (sym (c .before .before .before .before .before .before .before .before .before .before .before .before .before .before .before .before .before .before .before .is-over .ensures) ∙ c .before .before .before .before .before .before .before .before .before .before .before .before .before .before .before .before .before .before .if2 .left)) (c .before .before .before .before .before .before .before .nobody .ensures) (c .before .before .before .before .before .before .before .before .before .before .players .ensures) (c .before .before .before .before .combinations .ensures))
 
@@ -117,7 +117,7 @@ generate-candidates-spec =
     returns
     is-over-requires
     returns-2
-    has-late-requires
+    has-joined-over-requires
     returns-3
     returns-4
     add-seats

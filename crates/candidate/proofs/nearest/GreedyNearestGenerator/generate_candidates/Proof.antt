@@ -8,10 +8,10 @@ use lib.Seq.{length-take-le}
 use Rattle.base.proofs.Arrays.{unmapped}
 use Rattle.queue.specs.Queue.{queueOf}
 use Rattle.roster.specs.Roster.{ofRatings}
-use Rattle.ranking.proofs.Counting.{all-below}
+use Rattle.base.proofs.All.{all-below}
 use Rattle.ranking.proofs.Turning.{has-risen}
 use Rattle.seating.specs.Seating.{seatsOf}
-use Rattle.search.proofs.Checked.{passed-check}
+use Rattle.greedy.proofs.Checked.{passed-check}
 use Rattle.candidate.specs.Nearest.{ratingFor}
 use Rattle.candidate.specs.Steps.{howMany}
 use Rattle.candidate.proofs.Laws.{passed-roster, order-refused, order-given, seated-row, many-fit, nearest-refused, nearest-seatless, nearest-few, nearest-unranked, nearest-given}

@@ -17,8 +17,8 @@ use Rattle.roster.proofs.Laws.{passed-even, even-first, found-laid}
 use Rattle.matchmaker.specs.Quality.{matchOf}
 use Rattle.matchmaker.proofs.Rows.{seats-fit, rows-all, rows-first, rows-second}
 use Rattle.objective.specs.Steps.{columnWait}
-use Rattle.objective.proofs.Laws.{score-overfull, score-long, score-roster, score-clock, score-late, score-given}
-use Rattle.objective.proofs.Rows.{late-by-column, waits-by-columns, longest-known, score-of-rows}
+use Rattle.objective.proofs.Laws.{score-overfull, score-long, score-roster, score-clock, score-joined, score-given}
+use Rattle.objective.proofs.Rows.{over-by-column, waits-by-columns, longest-known, score-of-rows}
 use borrow.Author.Needs.{needs}
 use Rattle.objective.proofs.score.MatchObjective.score.Statement.{statement}
 use Rattle.objective.proofs.score.MatchObjective.score.Tie as tie
@@ -90,8 +90,8 @@ returns-3 c =
 enum-told : tie.Need-enum-told
 enum-told c = search needs
 
-is-late-requires : tie.Need-is-late-requires
-is-late-requires c κs = search needs
+is-over-requires : tie.Need-is-over-requires
+is-over-requires c κs = search needs
 
 returns-4 : tie.Need-returns-4
 returns-4 c =
@@ -99,7 +99,7 @@ returns-4 c =
     let r = ofDeviations (a .ids .now) (a .ratings .now) (a .deviations .now) in
     let m = matchOf (a .proposed) in
     let seated-fit = sym (c .before .before .before .before .before .before .before .before .before .before .before .before .before .before .is-overfull .ensures) ∙ c .before .before .before .before .before .before .before .before .before .before .before .before .before .if1 .left in
-    score-clock (a .self) r (queueOf (a .queue)) (a .clock) m seated-fit (le-ltb _ _ (c .before .before .before .before .before .before .before .before .before .before .before .if2 .left)) _ (c .before .before .before .before .before .checked-rows .ensures .0) (c .before .before .enum-told .given .1) (sym (c .before .is-late .ensures) ∙ c .if3 .taken)
+    score-clock (a .self) r (queueOf (a .queue)) (a .clock) m seated-fit (le-ltb _ _ (c .before .before .before .before .before .before .before .before .before .before .before .if2 .left)) _ (c .before .before .before .before .before .checked-rows .ensures .0) (c .before .before .enum-told .given .1) (sym (c .before .is-over .ensures) ∙ c .if3 .taken)
 
 columns-requires : tie.Need-columns-requires
 columns-requires c κs = search needs
@@ -113,8 +113,8 @@ array-share-prefix-joined c =
     let fits : q .len ≤ length (c .before .before .columns .result .joined) = omega arith in
     fits
 
-slice-aggregate-are-late : tie.Need-slice-aggregate-are-late
-slice-aggregate-are-late c =
+slice-aggregate-any-over : tie.Need-slice-aggregate-any-over
+slice-aggregate-any-over c =
     let q = c .before .before .before .before .before .before .before .before .before .before .before .before .before .before .before .before .before .before .before .before .before .before .args .queue in
     let l = places (c .before .before .before .before .before .before .before .before .before .before .before .before .before .before .before .before .before .before .before .before .before .before) in
     let w : length (c .before .before .before .columns .result .joined) ≡ 64 = ap (λ (k : Columns). length (k .joined)) (c .before .before .before .columns .ensures) ∙ length-map (q .entries) (λ (e : QueueEntry). e .joined) ∙ l in
@@ -122,8 +122,8 @@ slice-aggregate-are-late c =
     let fits : q .len ≤ length (c .before .before .before .columns .result .joined) = omega arith in
     sym (length-take-le (q .len) (c .before .before .before .columns .result .joined) fits)
 
-are-late-requires : tie.Need-are-late-requires
-are-late-requires c κs = search needs
+any-over-requires : tie.Need-any-over-requires
+any-over-requires c κs = search needs
 
 returns-5 : tie.Need-returns-5
 returns-5 c =
@@ -131,9 +131,9 @@ returns-5 c =
     let r = ofDeviations (a .ids .now) (a .ratings .now) (a .deviations .now) in
     let m = matchOf (a .proposed) in
     let seated-fit = sym (c .before .before .before .before .before .before .before .before .before .before .before .before .before .before .before .before .before .before .before .before .is-overfull .ensures) ∙ c .before .before .before .before .before .before .before .before .before .before .before .before .before .before .before .before .before .before .before .if1 .left in
-    let late = c .before .are-late .ensures ∙ ap (λ (k : Columns). any time.late (take (a .queue .len) (k .joined))) (c .before .before .before .before .before .columns .ensures) ∙ late-by-column (a .queue .entries) (a .queue .len) in
-    score-late (a .self) r (queueOf (a .queue)) (a .clock) m seated-fit (le-ltb _ _ (c .before .before .before .before .before .before .before .before .before .before .before .before .before .before .before .before .before .if2 .left)) _ (c .before .before .before .before .before .before .before .before .before .before .before .checked-rows .ensures .0) (c .before .before .before .before .before .before .before .before .enum-told .given .1)
-    (sym (c .before .before .before .before .before .before .before .is-late .ensures) ∙ c .before .before .before .before .before .before .if3 .left) (sym late ∙ c .if4 .taken)
+    let late = c .before .any-over .ensures ∙ ap (λ (k : Columns). any time.timeOver (take (a .queue .len) (k .joined))) (c .before .before .before .before .before .columns .ensures) ∙ over-by-column (a .queue .entries) (a .queue .len) in
+    score-joined (a .self) r (queueOf (a .queue)) (a .clock) m seated-fit (le-ltb _ _ (c .before .before .before .before .before .before .before .before .before .before .before .before .before .before .before .before .before .if2 .left)) _ (c .before .before .before .before .before .before .before .before .before .before .before .checked-rows .ensures .0) (c .before .before .before .before .before .before .before .before .enum-told .given .1)
+    (sym (c .before .before .before .before .before .before .before .is-over .ensures) ∙ c .before .before .before .before .before .before .if3 .left) (sym late ∙ c .if4 .taken)
 
 array-share-prefix-players-2 : tie.Need-array-share-prefix-players-2
 array-share-prefix-players-2 c =
@@ -197,13 +197,13 @@ returns-6 c =
     let r = ofDeviations (a .ids .now) (a .ratings .now) (a .deviations .now) in
     let m = matchOf (a .proposed) in
     let seated-fit = sym (c .before .before .before .before .before .before .before .before .before .before .before .before .before .before .before .before .before .before .before .before .before .before .before .before .before .is-overfull .ensures) ∙ c .before .before .before .before .before .before .before .before .before .before .before .before .before .before .before .before .before .before .before .before .before .before .before .before .if1 .left in
-    let late = c .before .before .before .before .before .before .are-late .ensures ∙ ap (λ (k : Columns). any time.late (take (a .queue .len) (k .joined))) (c .before .before .before .before .before .before .before .before .before .before .columns .ensures) ∙ late-by-column (a .queue .entries) (a .queue .len) in
+    let late = c .before .before .before .before .before .before .any-over .ensures ∙ ap (λ (k : Columns). any time.timeOver (take (a .queue .len) (k .joined))) (c .before .before .before .before .before .before .before .before .before .before .columns .ensures) ∙ over-by-column (a .queue .entries) (a .queue .len) in
     let k = c .before .before .before .before .before .before .before .before .before .before .before .before .before .before .before .before .checked-rows in
     let passed = c .before .before .before .before .before .before .before .before .before .before .before .before .before .enum-told .given .1 in
     let even = passed-even (a .ids .now) (length (a .ratings .now) ∷ length (a .deviations .now) ∷ []) [] (k .result) passed (k .ensures .0) in
     let first = even-first (length (a .ids .now)) (length (a .ratings .now)) (length (a .deviations .now) ∷ []) even in
     let second = even-first (length (a .ids .now)) (length (a .deviations .now)) [] (first .1) in
-    let everyone = ap (λ (n : ℕ). take n (c .before .before .before .before .before .before .before .before .before .before .before .before .before .before .before .before .before .before .before .before .before .seated-players .result .players)) (c .before .before .before .before .before .before .before .before .before .before .before .before .before .before .before .before .before .before .before .seats .ensures) ∙ c .before .before .before .before .before .before .before .before .before .before .before .before .before .before .before .before .before .before .before .before .before .seated-players .ensures in
+    let everyone = ap (λ (n : ℕ). take n (c .before .before .before .before .before .before .before .before .before .before .before .before .before .before .before .before .before .before .before .before .before .seated-players .result .players)) (c .before .before .before .before .before .before .before .before .before .before .before .before .before .before .before .before .before .before .before .seats .ensures) ∙ c .before .before .before .before .before .before .before .before .before .before .before .before .before .before .before .before .before .before .before .before .before .seated-players .ensures .0 in
     let x = m .a .players in
     let y = m .b .players in
     let sheet : List ℕ = replicate 16 0 in
@@ -215,7 +215,7 @@ returns-6 c =
     let wait = c .before .longest-wait .ensures ∙ longest-known everyone waits in
     let s = score-of-rows (a .self) (a .ids .now) (a .ratings .now) (a .deviations .now) (queueOf (a .queue) .entries) (a .clock) m (first .0) (second .0) (rows-first f x y sheet room laid) (rows-second f x y sheet room laid) (rows-all f x y sheet room laid) wait in
     score-given (a .self) r (queueOf (a .queue)) (a .clock) m seated-fit (le-ltb _ _ (c .before .before .before .before .before .before .before .before .before .before .before .before .before .before .before .before .before .before .before .before .before .before .if2 .left)) _ (k .ensures .0) passed
-    (sym (c .before .before .before .before .before .before .before .before .before .before .before .before .is-late .ensures) ∙ c .before .before .before .before .before .before .before .before .before .before .before .if3 .left) (sym late ∙ c .before .before .before .before .before .if4 .left) (c .score-by-rows .ensures ∙ s)
+    (sym (c .before .before .before .before .before .before .before .before .before .before .before .before .is-over .ensures) ∙ c .before .before .before .before .before .before .before .before .before .before .before .if3 .left) (sym late ∙ c .before .before .before .before .before .if4 .left) (c .score-by-rows .ensures ∙ s)
 
 pub score-spec : {M : Type 1} → statement M
 score-spec =
@@ -233,12 +233,12 @@ score-spec =
     enum-known-checked
     returns-3
     enum-told
-    is-late-requires
+    is-over-requires
     returns-4
     columns-requires
     array-share-prefix-joined
-    slice-aggregate-are-late
-    are-late-requires
+    slice-aggregate-any-over
+    any-over-requires
     returns-5
     array-share-prefix-players-2
     slice-aggregate-longest-wait

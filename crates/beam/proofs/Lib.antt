@@ -1,0 +1,12 @@
+pub mod Best
+pub mod Marks
+pub mod Slides
+pub mod Climbs
+pub mod Scores
+pub mod Standings
+pub mod Named
+pub mod Seats
+pub mod EvenSteps
+pub mod Sheets
+pub mod Drawn
+pub mod OldCounter

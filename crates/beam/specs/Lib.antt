@@ -1,0 +1,4 @@
+pub mod Beam
+pub mod OldCounter
+pub mod Levels
+pub mod Expanding
