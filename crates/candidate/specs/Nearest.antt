@@ -46,7 +46,7 @@ nearestMatches limit s r queue = chunks s limit (map (λ e. e .player) (rising r
 abbrev pub cannotRank : TeamComposition → Roster → List QueueEntry → Bool
 cannotRank s r queue = not (ltb (length queue) (seatsOf s)) && unrankable (map (ratingFor r) queue)
 
--- refusals 1, 2, 3 and 4 as greedy search gives them, then "12: nearest generator with A = B = 0", then 5; quality 0.0
+-- refusals 1, 2, 3 and 4 as greedy search gives them, then 12, "nearest generator with A = B = 0", then 5; quality 0.0
 abbrev pub nearestRule : ℕ → TeamComposition → Roster → QueueState → Sheets → HandedOut
 nearestRule limit s r q sheets =
     handedOut (λ m. Floats.zero)
