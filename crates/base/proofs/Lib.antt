@@ -6,6 +6,7 @@ pub mod Loops
 pub mod All
 pub mod Members
 pub mod Lookup
+pub mod Places
 pub mod Sheets
 pub mod Sign
 pub mod Order

@@ -25,6 +25,7 @@ use Rattle.base.specs.Sheets.{laid}
 use Rattle.base.proofs.Arrays.{take-map}
 use Rattle.base.proofs.Cases.{cases, never}
 use Rattle.base.proofs.All.{all-take, place-below}
+use Rattle.base.proofs.Places.{listed-places}
 use Rattle.base.proofs.Sheets.{copy-on}
 use Rattle.base.proofs.Sorting.{sort-map}
 use Rattle.queue.specs.declared.QueueEntry.{QueueEntry}
@@ -38,7 +39,7 @@ use Rattle.ranking.specs.declared.Ranked.{Ranked}
 use Rattle.ranking.specs.declared.Ascent.{Ascent}
 use Rattle.ranking.specs.Order.{rankedScore, numbered, ascentOf, risingRule}
 use Rattle.ranking.proofs.Turning.{length-rising-places, rising-places-below, not-risen}
-use Rattle.ranking.proofs.Places.{places, rankedAt, listed-places, sorted-places}
+use Rattle.ranking.proofs.Places.{places, rankedAt, sorted-places}
 use Rattle.seating.specs.declared.TeamComposition.{TeamComposition}
 use Rattle.seating.specs.Seating.{Sheets, sizesOver, areShort, seatsOf, seats}
 use Rattle.seating.specs.Steps.{overlaid}

@@ -10,13 +10,13 @@ use borrow.Author.Tests.{lt-ltb, le-ltb, ltb-true, ltb-false}
 use borrow.Rule.Slice.PartMut.{putMid}
 use lib.Dec.{ltb}
 use lib.Ieee.{Float}
-use lib.ListN.{length, take, drop, getD, set, length-append, length-map, length-drop, take-append-drop}
+use lib.ListN.{length, take, drop, getD, set, length-append, length-map, length-drop}
 use lib.Pow.{pow-pos, pow-mono}
-use lib.Seq.{length-take-le, drop-cons, set-at, append-snoc}
+use lib.Seq.{length-take-le, drop-cons}
 use Rattle.base.specs.Floats as Floats
 use Rattle.base.specs.Sheets.{laid}
 use Rattle.base.proofs.Cases.{cases}
-use Rattle.base.proofs.Sheets.{laid-part}
+use Rattle.base.proofs.Sheets.{laid-part, laid-one}
 use Rattle.matchmaker.specs.Quality.{TeamState, MatchState, seated}
 use Rattle.seating.specs.declared.TeamComposition.{TeamComposition}
 use Rattle.seating.specs.Seating.{seatsOf}
@@ -167,14 +167,6 @@ all-at s m k q from rest l a b e h =
         let n = i c (List·Memᴰ·head refl) in
         let f = seat-all s m c a b (omega arith) in
         go cs (listed l (foldl (seatedNext s) m c)) (λ c' j. i c' (List·Memᴰ·tail j)) ∙ omega (arith, f, n, suc-mul (length cs) (seatsOf s))
-
--- one element stored is a row of one
-laid-one : {A : Type 0} (d : List A) (at : ℕ) (x : A) → at < length d → set d at x ≡ laid d at (x ∷ [])
-unfolding laid
-laid-one {A} d at x h =
-    ap (λ (l : List A). set l at x) (sym (take-append-drop at d) ∙ ap (λ (l : List A). take at d ++ l) (drop-cons d at x h))
-    ∙ set-at (take at d) (getD d at x) (drop (suc at) d) x at (length-take-le at d (omega arith))
-    ∙ rw (add-one at) (sym (append-snoc (take at d) x (drop (suc at) d)))
 
 -- a match written into the part from `at` on, and its quality, are the match listed
 pub one-listed : (s : TeamComposition) (m : MatchState) (xs : List ℕ) (players : List ℕ) (qualities : List Float) (at done n : ℕ) {last : List ℕ} → at + length (seated m) ≤ length players → done < length qualities

@@ -1,6 +1,6 @@
 -- The queue in the order that its joined times have by place: it is the queue put in order of joining, and each of the queue's entries
 -- stands in it where the order says.
-use Prim.Native.Nat.{ℕ, zero, suc, _+_, _≤_, _<_}
+use Prim.Native.Nat.{ℕ, _+_, _≤_, _<_}
 use mathlib.Core.Path.{_≡_, refl, sym, ap, _∙_}
 use mathlib.Core.List.{List, [], _∷_, map}
 use native.Mathlib.Omega.{arith}
@@ -9,21 +9,15 @@ use lib.ListN.{length, take, getD, length-map, List·getD-map}
 use lib.Seq.{take-length, getD-take, length-take-le}
 use Rattle.base.specs.Lists.{All, placesFrom}
 use Rattle.base.specs.Ranking.{sortBy}
+use Rattle.base.proofs.Places.{places-below, place-at, listed-places}
 use Rattle.base.proofs.Sorting.{sort-permutes, permuted-length, sort-map, all-permuted}
 use Rattle.queue.specs.declared.QueueEntry.{QueueEntry}
 use Rattle.queue.specs.Columns.{noEntry}
 use Rattle.ranking.specs.Times.{earlierAt, placesByTime}
-use Rattle.ranking.proofs.Places.{listed-places, places-below}
 use Rattle.base.proofs.All.{place-below}
 use Rattle.greedy.specs.LongerWait.{byJoining}
 use Rattle.greedy.proofs.InOrder.{joinedBy}
 use Rattle.base.proofs.Arrays.{column-at}
-
--- at a place of these stands that place
-place-at : (at n i : ℕ) → i < n → getD (placesFrom at n) i 0 ≡ at + i
-place-at at zero i h = absurd (omega arith)
-place-at at (suc n) zero h = omega arith
-place-at at (suc n) (suc i) h = place-at (suc at) n i (omega arith) ∙ omega arith
 
 module _ (queue : List QueueEntry) where
   -- the entry at a place

@@ -1,15 +1,15 @@
 -- Everyone seated in one array, and what their rows say, found once for all.
-use Prim.Native.Nat.{ℕ, _+_, _-_, _≤_, _<_, suc}
+use Prim.Native.Nat.{ℕ, _+_, _-_, _≤_, _<_}
 use mathlib.Core.Path.{_≡_, refl, sym, ap, _∙_}
 use mathlib.Core.List.{List, [], _∷_, _++_, map, map-append, append-assoc, append-nil}
 use native.Mathlib.Nat.{add-zero}
 use native.Mathlib.Numerals.{add-one}
 use native.Mathlib.Omega.{arith}
 use lib.Ieee.{Float}
-use lib.ListN.{length, take, drop, getD, set, length-map, length-append, take-append-drop}
-use lib.Seq.{length-take-le, take-take, take-all, take-suc, take-at, drop-at, take-append-add, drop-cons, set-at, append-snoc}
+use lib.ListN.{length, take, drop, getD, set, length-map, length-append}
+use lib.Seq.{length-take-le, take-take, take-all, take-suc, take-at, drop-at, take-append-add}
 use Rattle.base.specs.Sheets.{laid}
-use Rattle.base.proofs.Sheets.{laid-none, laid-laid, length-laid}
+use Rattle.base.proofs.Sheets.{laid-none, laid-one, laid-laid, length-laid}
 use Rattle.base.proofs.Arrays.{push, all-held, held-fits}
 use Rattle.roster.specs.Roster.{ofRatings, rowOf, observe}
 use Rattle.roster.specs.Rows.{valueAt}
@@ -22,15 +22,6 @@ use Rattle.matchmaker.specs.Steps.{rowsAverage, rowsQuality}
 -- no place yet
 pub seat-start : (players : List ℕ) (at : ℕ) → take (at + 0) players ≡ take at players ++ []
 seat-start players at = rw (add-zero, append-nil)
-
--- what is stored at a place is a row of one
-laid-one : (d : List ℕ) (k x : ℕ) → k < length d → set d k x ≡ laid d k (x ∷ [])
-unfolding laid
-laid-one d k x h =
-    ap (λ (l : List ℕ). set l k x) (sym (take-append-drop k d) ∙ ap (λ (l : List ℕ). take k d ++ l) (drop-cons d k 0 h))
-    ∙ set-at (take k d) (getD d k 0) (drop (suc k) d) x k (length-take-le k d (omega arith))
-    ∙ sym (append-snoc (take k d) x (drop (suc k) d))
-    ∙ ap (λ (n : ℕ). take k d ++ (x ∷ []) ++ drop n d) (sym (add-one k))
 
 module _ (players places : List ℕ) (at : ℕ) where
   -- one place more

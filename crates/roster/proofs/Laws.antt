@@ -1,15 +1,15 @@
 -- The roster's laws: ascending ids are all different, what a column says of a player and in a row, and the turns of the loops.
-use Prim.Native.Nat.{ℕ, zero, suc, _+_, _≤_, _<_, min}
+use Prim.Native.Nat.{ℕ, zero, suc, _+_, _≤_, _<_}
 use mathlib.Core.Path.{_≡_, refl, sym, ap, _∙_}
 use mathlib.Core.Bool.{Bool, true, false, cond, _&&_}
-use mathlib.Core.List.{List, [], _∷_, _++_, map}
+use mathlib.Core.List.{List, [], _∷_, map}
 use mathlib.Core.Option.{none, some}
 use native.Mathlib.Numerals.{add-one}
 use native.Mathlib.Nat.{le-of-suc-le-suc, not-suc-le-zero}
 use native.Mathlib.Omega.{arith}
 use borrow.Author.Tests.{lt-ltb, le-ltb, ltb-true, ltb-false, eq-eqb, ne-eqb, eqb-true}
 use lib.Dec.{eqb, ltb}
-use lib.ListN.{length, take, drop, getD, set, length-map, length-take, drop-of-length-le, List·getD-map}
+use lib.ListN.{length, take, drop, getD, drop-of-length-le}
 use lib.Seq.{drop-cons, take-all}
 use Rattle.base.specs.Lists.{seek, any, every, place, member, distinct}
 use Rattle.base.specs.Sheets.{laid}
@@ -18,8 +18,6 @@ use Rattle.base.specs.declared.Checked.{Checked}
 use Rattle.base.specs.declared.Checked.the-variants.{Passed, Refused}
 use Rattle.base.specs.declared.Refusal.{Refusal}
 use Rattle.base.proofs.Cases.{cases, never}
-use Rattle.base.proofs.Arrays.{all-held}
-use Rattle.base.proofs.Sheets.{copy-on}
 use Rattle.roster.specs.Ascending.{ascendsFrom, ascends}
 use Rattle.roster.specs.Roster.{tooLong, isRegion, columnsCheck, rowOf, observe}
 use Rattle.roster.specs.Rows.{foundRows, valueAt}
@@ -98,22 +96,6 @@ only-row p (id ∷ ids) (suc i) d h e =
     (λ f. rw (other-head p id ids i f (le-of-suc-le-suc h) e) (ap suc (only-row p ids i (rw f at d) (le-of-suc-le-suc h) e)))
 
 -- ---- rows onto a sheet
-
-module _ {B : Type 0} (f : ℕ → B) (players : List ℕ) (sheet : List B) (i : ℕ) where
-  -- one player's row more
-  pub rows-on : {row : B} → i < length players → i < length sheet → row ≡ f (getD players i 0) → set (take i (map f players) ++ drop i sheet) i row ≡ take (i + 1) (map f players) ++ drop (i + 1) sheet
-  rows-on h k e =
-      rw (e, ← List·getD-map f players i 0)
-      (copy-on (map f players) sheet (f 0) i (rw (length-map players f) h) k)
-
-  -- no player is left, or no place
-  pub rows-end : i ≡ min (length players) (length sheet) → take i (map f players) ++ drop i sheet ≡ laid sheet 0 (take (length sheet) (map f players))
-  unfolding laid
-  rows-end e =
-      let w : i ≡ length (take (length sheet) (map f players)) = omega (arith, e, length-take (length sheet) (map f players), length-map players f) in
-      let z : i ≡ 0 + length (take (length sheet) (map f players)) = omega arith in
-      ap (λ (l : List B). l ++ drop i sheet) (all-held (length sheet) (map f players) w)
-      ∙ ap (λ (n : ℕ). take (length sheet) (map f players) ++ drop n sheet) z
 
 -- what comes of a sheet behind a check
 module _ (ids players sheet : List ℕ) (k : Checked) {o : Outcome Unit} where

@@ -30,6 +30,7 @@ pub record Greediest (scores : List Float) (p : ℕ) : Type 0 where
   pub last : Last (scoreAt scores) (places scores) p
 
 best-place : (s : Float) (ss : List Float) {p : ℕ} → bestOf (numbered 0 (s ∷ ss)) ≡ p ∷ [] → lastBest (scoreAt (s ∷ ss)) 0 (placesFrom 1 (length ss)) ≡ p
+unfolding placesFrom
 best-place s ss {p} h =
     let g = rankedAt nan (s ∷ ss) in
     let e : numbered 0 (s ∷ ss) ≡ g 0 ∷ map g (placesFrom 1 (length ss)) = numbered-places nan (s ∷ ss) 0 (length (s ∷ ss)) (omega arith) in
@@ -38,7 +39,7 @@ best-place s ss {p} h =
     cc
 
 greediest : (scores : List Float) {p : ℕ} → unrankable scores ≡ false → bestOf (numbered 0 scores) ≡ p ∷ [] → Greediest scores p
-unfolding numbered
+unfolding numbered placesFrom
 greediest [] u h = never cc
 greediest (s ∷ []) u h = rw (← best-place s [] h) (record { tops = (lt-irrefl s, tt); last = last (scoreAt (s ∷ [])) 0 [] })
 greediest (s ∷ t ∷ ss) u h =
@@ -78,7 +79,7 @@ falling-places scores =
     ap (map (λ (x : Ranked). x .place)) (sorted-places nan (higher rankedScore) scores) ∙ map-map (λ (x : Ranked). x .place) (rankedAt nan scores) ps ∙ map-id ps
 
 falls : (scores : List Float) → unrankable scores ≡ false → Falling scores (sortBy (higher (scoreAt scores)) (places scores))
-unfolding insertBy
+unfolding insertBy placesFrom
 falls [] u = record { all = sort-permutes (higher (scoreAt [])) []; sorted = tt; stable = λ q n. refl }
 falls (s ∷ []) u = record { all = sort-permutes (higher (scoreAt (s ∷ []))) (0 ∷ []); sorted = (tt, tt); stable = λ q n. refl }
 falls (s ∷ t ∷ ss) u =

@@ -11,10 +11,10 @@ use Rattle.base.specs.Floats as Floats
 use Rattle.base.specs.Lists.{any}
 use Rattle.base.specs.Refusals.{Outcome, gives}
 use Rattle.base.proofs.Arrays.{unmapped}
+use Rattle.base.proofs.Sheets.{written-reads}
 use Rattle.queue.specs.declared.QueueEntry.{QueueEntry}
 use Rattle.queue.specs.Queue.{queueOf, joinedOver}
 use Rattle.roster.specs.Roster.{ofRatings}
-use Rattle.roster.proofs.Told.{places-say}
 use Rattle.matchmaker.specs.Quality.{MatchState, qualityOf}
 use Rattle.seating.specs.Seating.{Sheets, seats, handedOut}
 use Rattle.seating.proofs.Handing.{handed-out}
@@ -157,7 +157,7 @@ returns-2 c =
     let named : take n players ≡ map (λ e. e .player) (byJoining queue) = arranged .ensures .1 ∙ column-joining queue n _ (order .result .places) (order .result .stands) all (read .1 .1 .1) room space (order .ensures .0) (order .ensures .1 .0) (order .ensures .1 .1) (λ (e : QueueEntry). e .player) 0 _ (read .0 .1) in
     let rated = c .before .before .before .before .before .before .before .before .before .before .before .before .before .before .before .before .arrange-ratings .ensures .1 ∙ column-joining queue n _ (order .result .places) (order .result .stands) all (read .1 .1 .1) room space (order .ensures .0) (order .ensures .1 .0) (order .ensures .1 .1) (λ (e : QueueEntry). e .rating) nan _ (read .1 .0 .1) in
     let many : n ≡ length (take n players) = all ∙ sym (length-joining queue) ∙ sym (length-map (byJoining queue) (λ (e : QueueEntry). e .player)) ∙ sym (ap length named) in
-    let rostered = places-say (rosterRating r) (take n players) (replicate 64 Floats.zero) many fits (c .before .before .before .before .before .before .before .before .before .before .before .before .before .write-values .ensures) in
+    let rostered = written-reads (rosterRating r) (take n players) (replicate 64 Floats.zero) many fits (c .before .before .before .before .before .before .before .before .before .before .before .before .before .write-values .ensures) in
     let plain = greedy-plain (a .sizes) r queue (byJoining queue) (as-ordered queue) (take n players) (order .result .stands) _ _ n
     all (all ∙ sym (length-joining queue)) fits (twice ∙ named) rated (rostered ∙ ap (map (rosterRating r)) (sym twice)) (turn-at queue n _ (order .result .places) (order .result .stands) all (read .1 .1 .1) room space (order .ensures .0) (order .ensures .1 .0) (order .ensures .1 .1)) in
     let out = out-alike plain (c .before .before .before .before .match-all .ensures) in

@@ -3,10 +3,10 @@ use Prim.Native.Nat.{ℕ, _-_, _≤_, min}
 use mathlib.Core.Path.{_≡_, refl, ap, _∙_}
 use mathlib.Core.List.{_++_, map}
 use Rattle.base.specs.Lists.{isSome}
+use Rattle.base.proofs.Sheets.{written-on, written-end}
 use native.Mathlib.Omega.{arith}
 use lib.ListN.{length, take, drop, length-set}
 use Rattle.roster.specs.Roster.{observe}
-use Rattle.roster.proofs.Laws.{rows-on, rows-end}
 use borrow.Author.Needs.{needs}
 use Rattle.roster.proofs.places.write_known.Statement.{statement}
 use Rattle.roster.proofs.places.write_known.Tie as tie
@@ -28,7 +28,7 @@ returns c =
     let a = c .before .before .before .before .before .before .before .args in
     let l = c .before .before .loop in
     let e : l .i ≡ min (length (a .players .now)) (length (a .known .now)) = omega (arith, l .inv .2) in
-    l .inv .3 ∙ rows-end (λ (p : ℕ). isSome (observe (a .ids .now) (a .column .now) p)) (a .players .now) (a .known .now) (l .i) e
+    l .inv .3 ∙ written-end (λ (p : ℕ). isSome (observe (a .ids .now) (a .column .now) p)) (a .players .now) (a .known .now) (l .i) e
 
 mul-observation : tie.Need-mul-observation Inv-loop μ-loop
 mul-observation c = search needs
@@ -55,7 +55,7 @@ loop-again : tie.Need-loop-again Inv-loop μ-loop
 loop-again c =
     let a = c .before .before .before .before .before .before .before .before .before .before .args in
     let l = c .before .before .before .before .before .loop in
-    (omega arith, omega arith, simp length-set (l .inv .2), rw (l .inv .3) (rows-on (λ (p : ℕ). isSome (observe (a .ids .now) (a .column .now) p)) (a .players .now) (a .known .now) (l .i) (omega arith) (omega arith) (c .is-something .ensures ∙ ap (λ o. isSome o) (c .before .observation .ensures))))
+    (omega arith, omega arith, simp length-set (l .inv .2), rw (l .inv .3) (written-on (λ (p : ℕ). isSome (observe (a .ids .now) (a .column .now) p)) (a .players .now) (a .known .now) (l .i) 0 (omega arith) (omega arith) (c .is-something .ensures ∙ ap (λ o. isSome o) (c .before .observation .ensures))))
 
 same-length-2 : tie.Need-same-length-2 Inv-loop μ-loop
 same-length-2 c = search needs
@@ -65,7 +65,7 @@ returns-2 c =
     let a = c .before .before .before .before .before .before .args in
     let l = c .before .loop in
     let e : l .i ≡ min (length (a .players .now)) (length (a .known .now)) = omega (arith, l .inv .2) in
-    l .inv .3 ∙ rows-end (λ (p : ℕ). isSome (observe (a .ids .now) (a .column .now) p)) (a .players .now) (a .known .now) (l .i) e
+    l .inv .3 ∙ written-end (λ (p : ℕ). isSome (observe (a .ids .now) (a .column .now) p)) (a .players .now) (a .known .now) (l .i) e
 
 pub write-known-spec : {M : Type 1} → statement M
 write-known-spec =

@@ -4,10 +4,10 @@ use mathlib.Core.Path.{_≡_, refl, ap, _∙_}
 use mathlib.Core.List.{_++_, map}
 use mathlib.Core.Option.{Option·getD}
 use Rattle.base.specs.Floats as Floats
+use Rattle.base.proofs.Sheets.{written-on, written-end}
 use native.Mathlib.Omega.{arith}
 use lib.ListN.{length, take, drop, length-set}
 use Rattle.roster.specs.Roster.{observe}
-use Rattle.roster.proofs.Laws.{rows-on, rows-end}
 use borrow.Author.Needs.{needs}
 use Rattle.roster.proofs.places.write_values.Statement.{statement}
 use Rattle.roster.proofs.places.write_values.Tie as tie
@@ -29,7 +29,7 @@ returns c =
     let a = c .before .before .before .before .before .before .before .args in
     let l = c .before .before .loop in
     let e : l .i ≡ min (length (a .players .now)) (length (a .values .now)) = omega (arith, l .inv .2) in
-    l .inv .3 ∙ rows-end (λ (p : ℕ). Option·getD (observe (a .ids .now) (a .column .now) p) Floats.zero) (a .players .now) (a .values .now) (l .i) e
+    l .inv .3 ∙ written-end (λ (p : ℕ). Option·getD (observe (a .ids .now) (a .column .now) p) Floats.zero) (a .players .now) (a .values .now) (l .i) e
 
 mul-observation : tie.Need-mul-observation Inv-loop μ-loop
 mul-observation c = search needs
@@ -59,7 +59,7 @@ loop-again : tie.Need-loop-again Inv-loop μ-loop
 loop-again c =
     let a = c .before .before .before .before .before .before .before .before .before .before .args in
     let l = c .before .before .before .before .before .loop in
-    (omega arith, omega arith, simp length-set (l .inv .2), rw (l .inv .3) (rows-on (λ (p : ℕ). Option·getD (observe (a .ids .now) (a .column .now) p) Floats.zero) (a .players .now) (a .values .now) (l .i) (omega arith) (omega arith) (c .or-zero .ensures ∙ ap (λ o. Option·getD o Floats.zero) (c .before .observation .ensures))))
+    (omega arith, omega arith, simp length-set (l .inv .2), rw (l .inv .3) (written-on (λ (p : ℕ). Option·getD (observe (a .ids .now) (a .column .now) p) Floats.zero) (a .players .now) (a .values .now) (l .i) 0 (omega arith) (omega arith) (c .or-zero .ensures ∙ ap (λ o. Option·getD o Floats.zero) (c .before .observation .ensures))))
 
 same-length-2 : tie.Need-same-length-2 Inv-loop μ-loop
 same-length-2 c = search needs
@@ -69,7 +69,7 @@ returns-2 c =
     let a = c .before .before .before .before .before .before .args in
     let l = c .before .loop in
     let e : l .i ≡ min (length (a .players .now)) (length (a .values .now)) = omega (arith, l .inv .2) in
-    l .inv .3 ∙ rows-end (λ (p : ℕ). Option·getD (observe (a .ids .now) (a .column .now) p) Floats.zero) (a .players .now) (a .values .now) (l .i) e
+    l .inv .3 ∙ written-end (λ (p : ℕ). Option·getD (observe (a .ids .now) (a .column .now) p) Floats.zero) (a .players .now) (a .values .now) (l .i) e
 
 pub write-values-spec : {M : Type 1} → statement M
 write-values-spec =
