@@ -5,6 +5,7 @@ pub mod Arrays
 pub mod Loops
 pub mod All
 pub mod Members
+pub mod Every
 pub mod Lookup
 pub mod Places
 pub mod Sheets

@@ -35,7 +35,7 @@ module _ (s : TeamComposition) (q : QueueState) (sheets : Sheets) where
   refuses-1 e = rw e
 
   module _ (in-limits : (ltb 64 (q .size) || sizesOver s) ≡ false) where
-    -- a late time
+    -- a time above 2^53
     pub refuses-4 : any joinedOver (q .entries) ≡ true → record { answer = refused 4; sheets = sheets } ≡ exhaustiveRule s q sheets
     refuses-4 e = rw (in-limits, e)
 

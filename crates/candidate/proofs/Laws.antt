@@ -42,10 +42,10 @@ use Rattle.ranking.proofs.Turning.{length-rising-places, rising-places-below, n
 use Rattle.ranking.proofs.Places.{places, rankedAt, sorted-places}
 use Rattle.seating.specs.declared.TeamComposition.{TeamComposition}
 use Rattle.seating.specs.Seating.{Sheets, sizesOver, areShort, seatsOf, seats}
+use Rattle.seating.specs.Searching.{searchCheck}
 use Rattle.seating.specs.Steps.{overlaid}
 use Rattle.seating.proofs.Handing.{handed-refused, handed-on, handed-out}
 use Rattle.seating.proofs.Laws.{overlaid-cut, lent-second, length-seats}
-use Rattle.greedy.specs.Greedy.{greedyCheck}
 use Rattle.candidate.specs.Nearest.{thousand, ratingFor, rising, chunks, nearestMatches, cannotRank, nearestRule, ratingBy}
 use Rattle.candidate.specs.Steps.{howMany}
 use Rattle.candidate.proofs.Chunks.{consecutive, exact, length-rising, matches-fit, seats-fit}
@@ -290,12 +290,12 @@ roster-passing true o rest h = never cc
 roster-passing false (refused n) rest h = never cc
 roster-passing false (gives v) rest h = refl
 
-pub passed-roster : (s : TeamComposition) (r : Roster) (q : QueueState) (players qualities : ℕ) (k : Checked) → k ≡ Passed → checkedOf k ≡ greedyCheck s r q players qualities → ratingsCheck r ≡ gives tt
+pub passed-roster : (s : TeamComposition) (r : Roster) (q : QueueState) (players qualities : ℕ) (k : Checked) → k ≡ Passed → checkedOf k ≡ searchCheck s r q players qualities → ratingsCheck r ≡ gives tt
 passed-roster s r q players qualities k e h =
-    let p : gives tt ≡ greedyCheck s r q players qualities = rw e at h in
+    let p : gives tt ≡ searchCheck s r q players qualities = rw e at h in
     roster-passing (ltb 64 (q .size) || sizesOver s) (ratingsCheck r) (cond (areShort players qualities) (refused 3) (cond (any joinedOver (q .entries)) (refused 4) (gives tt))) p
 
-module _ (limit : ℕ) (s : TeamComposition) (r : Roster) (q : QueueState) (sheets : Sheets) (k : Checked) (h : checkedOf k ≡ greedyCheck s r q (length (sheets .players)) (length (sheets .qualities))) where
+module _ (limit : ℕ) (s : TeamComposition) (r : Roster) (q : QueueState) (sheets : Sheets) (k : Checked) (h : checkedOf k ≡ searchCheck s r q (length (sheets .players)) (length (sheets .qualities))) where
   -- what comes behind the check
   abbrev behind : Outcome (List MatchState)
   behind = cond (eqb (seatsOf s) 0) (refused 12) (cond (cannotRank s r (q .entries)) (refused 5) (gives (nearestMatches limit s r (q .entries))))

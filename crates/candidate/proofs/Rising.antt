@@ -19,7 +19,7 @@ use Rattle.roster.specs.Roster.{Roster}
 use Rattle.matchmaker.specs.Quality.{MatchState}
 use Rattle.seating.specs.declared.TeamComposition.{TeamComposition}
 use Rattle.seating.specs.Seating.{Sheets, seatsOf, handedOut}
-use Rattle.greedy.specs.Greedy.{greedyCheck}
+use Rattle.seating.specs.Searching.{searchCheck}
 use Rattle.candidate.specs.Nearest.{ratingFor, rising, nearestMatches, nearestRule}
 
 -- es are the entries of the queue in a stable rising order
@@ -60,4 +60,4 @@ given quality s (gives v) false false false ms h e = refl
 pub nearest-rises : (limit : ℕ) (s : TeamComposition) (r : Roster) (q : QueueState) (sheets : Sheets) {n : ℕ} → nearestRule limit s r q sheets .answer ≡ gives n → ltb (length (q .entries)) (seatsOf s) ≡ false → Rising r (q .entries) (rising r (q .entries))
 nearest-rises limit s r q sheets h e =
     rises r (q .entries)
-    (given (λ m. Floats.zero) sheets (greedyCheck s r q (length (sheets .players)) (length (sheets .qualities))) (eqb (seatsOf s) 0) (ltb (length (q .entries)) (seatsOf s)) (unrankable (map (ratingFor r) (q .entries))) (nearestMatches limit s r (q .entries)) h e)
+    (given (λ m. Floats.zero) sheets (searchCheck s r q (length (sheets .players)) (length (sheets .qualities))) (eqb (seatsOf s) 0) (ltb (length (q .entries)) (seatsOf s)) (unrankable (map (ratingFor r) (q .entries))) (nearestMatches limit s r (q .entries)) h e)

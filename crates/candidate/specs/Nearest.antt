@@ -15,7 +15,7 @@ use Rattle.roster.specs.Roster.{Roster, ratingOf}
 use Rattle.matchmaker.specs.Quality.{MatchState}
 use Rattle.seating.specs.declared.TeamComposition.{TeamComposition}
 use Rattle.seating.specs.Seating.{Sheets, HandedOut, seatsOf, lineup, handedOut}
-use Rattle.greedy.specs.Greedy.{greedyCheck}
+use Rattle.seating.specs.Searching.{searchCheck}
 
 -- 1000.0
 abbrev pub thousand : Float
@@ -46,11 +46,11 @@ nearestMatches limit s r queue = chunks s limit (map (λ e. e .player) (rising r
 abbrev pub cannotRank : TeamComposition → Roster → List QueueEntry → Bool
 cannotRank s r queue = not (ltb (length queue) (seatsOf s)) && unrankable (map (ratingFor r) queue)
 
--- refusals 1, 2, 3 and 4 as greedy search gives them, then 12, "nearest generator with A = B = 0", then 5; quality 0.0
+-- refusals 1, 2, 3 and 4 of what a search is given, then 12, "nearest generator with A = B = 0", then 5; quality 0.0
 abbrev pub nearestRule : ℕ → TeamComposition → Roster → QueueState → Sheets → HandedOut
 nearestRule limit s r q sheets =
     handedOut (λ m. Floats.zero)
-    (guarded (greedyCheck s r q (length (sheets .players)) (length (sheets .qualities)))
+    (guarded (searchCheck s r q (length (sheets .players)) (length (sheets .qualities)))
     (cond (eqb (seatsOf s) 0) (refused 12)
     (cond (cannotRank s r (q .entries)) (refused 5) (gives (nearestMatches limit s r (q .entries))))))
     sheets

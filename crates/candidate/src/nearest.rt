@@ -133,7 +133,7 @@ impl GreedyNearestGenerator {
     ) -> Formed
         ensures { λ r. ⌜ leaving r (now (players .exit)) (now (qualities .exit)) ≡ nearestRule (self .max) sizes (ofRatings (now (ids .entry)) (now (ratings .entry))) (queueOf queue) (record { players = now (players .entry); qualities = now (qualities .entry) }) ⌝ }
     {
-        if let Checked::Refused(refusal) = greedy::check(
+        if let Checked::Refused(refusal) = seating::searching::check(
             queue,
             sizes,
             ids,

@@ -16,7 +16,8 @@ use Rattle.matchmaker.specs.Quality.{MatchState, qualityOf}
 use Rattle.objective.specs.declared.score.MatchObjective.{MatchObjective}
 use Rattle.seating.specs.declared.TeamComposition.{TeamComposition}
 use Rattle.seating.specs.Seating.{Sheets, HandedOut, sizesOver, areShort, handedOut, readOff, toldBy}
-use Rattle.greedy.specs.Greedy.{greedyMatches, greedyCheck, greedyRule}
+use Rattle.seating.specs.Searching.{searchCheck}
+use Rattle.greedy.specs.Greedy.{greedyMatches, greedyRule}
 use Rattle.beam.specs.Beam.{beamRule}
 use Rattle.seating.specs.Seats.{Seating}
 use Rattle.greedy.specs.Copies.{Copied}
@@ -57,7 +58,7 @@ guarded-numbered (refused n) v h k = h
 guarded-numbered (gives u) v h k = k
 
 -- nor is any of a greedy search's
-greedy-numbered : (s : TeamComposition) (r : Roster) (q : QueueState) (players qualities : ℕ) → Numbered (greedyCheck s r q players qualities)
+greedy-numbered : (s : TeamComposition) (r : Roster) (q : QueueState) (players qualities : ℕ) → Numbered (searchCheck s r q players qualities)
 greedy-numbered s r q players qualities =
     pick Numbered (ltb 64 (q .size) || sizesOver s) (λ e. omega (arith, e))
     (guarded-numbered (ratingsCheck r) _
@@ -75,7 +76,7 @@ module _ (s : TeamComposition) (r : Roster) (sheets : Sheets) where
   greedy-counted : (q : QueueState) (f : Formed) (players : List ℕ) (qualities : List Float) → SearchNumbers (greedyRule s r q sheets) f players qualities → f .refusal ≡ 0 →
       (n : ℕ) × (greedyRule s r q sheets .answer ≡ gives n)
   greedy-counted q f players qualities n e =
-      let check = greedyCheck s r q (length (sheets .players)) (length (sheets .qualities)) in
+      let check = searchCheck s r q (length (sheets .players)) (length (sheets .qualities)) in
       counted (λ m. qualityOf r (m .a .players) (m .b .players)) sheets (guarded check (gives (greedyMatches s r (q .entries))))
       (guarded-numbered check _ (greedy-numbered s r q (length (sheets .players)) (length (sheets .qualities))) tt)
       (sym (ap (λ (x : Formed). x .refusal) (n .answer)) ∙ e)

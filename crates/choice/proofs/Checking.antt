@@ -77,26 +77,30 @@ module _ (r : Roster) (c : Constraints) (count : ℕ) (s : TeamComposition) wher
 
 -- ---- a check that passes
 
-passing : (n o : Bool) (x y : Outcome Unit) (l w : Bool) → _≡_ {A = Outcome Unit} (gives tt) (cond n (refused 1) (guarded (cond o (refused 1) (guarded x y)) (cond l (refused 4) (cond w (refused 6) (gives tt))))) → (n ≡ false) × ((o ≡ false) × (w ≡ false))
+passing : (n o : Bool) (x y : Outcome Unit) (l w : Bool) → _≡_ {A = Outcome Unit} (cond n (refused 1) (guarded (cond o (refused 1) (guarded x y)) (cond l (refused 4) (cond w (refused 6) (gives tt))))) (gives tt) → (n ≡ false) × ((o ≡ false) × ((x ≡ gives tt) × (w ≡ false)))
 passing true o x y l w h = never cc
 passing false true x y l w h = never cc
 passing false false (refused n) y l w h = never cc
 passing false false (gives u) (refused n) l w h = never cc
 passing false false (gives u) (gives v) true w h = never cc
 passing false false (gives u) (gives v) false true h = never cc
-passing false false (gives u) (gives v) false false h = (refl, (refl, refl))
+passing false false (gives u) (gives v) false false h = (refl, (refl, (refl, refl)))
 
--- the sizes are 8 at most, and the queue is of 20 entries at most
-pub record Held (s : TeamComposition) (n : ℕ) : Type 0 where
+-- the sizes are 8 at most, the roster passes its check, and the queue is of 20 entries at most
+pub record Held (r : Roster) (s : TeamComposition) (n : ℕ) : Type 0 where
   pub a : s .a ≤ 8
   pub b : s .b ≤ 8
+  pub checked : rulesCheck r ≡ gives tt
   pub few : n ≤ 20
 
-pub held : (r : Roster) (c : Constraints) (count : ℕ) (s : TeamComposition) (es : List QueueEntry) (n : ℕ) {k : Checked} → length es ≡ 64 → k ≡ Passed → checkedOf k ≡ choiceCheck r c count s (record { size = n; entries = take n es }) → Held s n
-held r c count s es n {k} long e h =
-    let q : QueueState = record { size = n; entries = take n es } in
-    let p : gives tt ≡ choiceCheck r c count s q = rw e at h in
-    let g = passing (ltb 64 n) (over c count s) (rulesCheck r) (broughtPairsCheck c) (any joinedOver (take n es)) (tooWide (take n es)) p in
+pub held : (r : Roster) (c : Constraints) (count : ℕ) (s : TeamComposition) (es : List QueueEntry) (n : ℕ) → length es ≡ 64 → choiceCheck r c count s (record { size = n; entries = take n es }) ≡ gives tt → Held r s n
+held r c count s es n long h =
+    let g = passing (ltb 64 n) (over c count s) (rulesCheck r) (broughtPairsCheck c) (any joinedOver (take n es)) (tooWide (take n es)) h in
     let z = sizes-in s (neither (sizesOver s) (constraintsOver c || ltb 8 count) (g .1 .0) .0) in
     let f = ltb-false 64 n (g .0) in
-    record { a = z .0; b = z .1; few = omega (arith, ltb-false 20 (length (take n es)) (g .1 .1), length-take-le n es (omega (arith, f, long))) }
+    record {
+      a = z .0;
+      b = z .1;
+      checked = g .1 .1 .0;
+      few = omega (arith, ltb-false 20 (length (take n es)) (g .1 .1 .1), length-take-le n es (omega (arith, f, long)));
+    }

@@ -6,34 +6,29 @@ use mathlib.Core.List.{List, [], _∷_}
 use mathlib.Core.Option.{none, some}
 use native.Mathlib.Numerals.{sub-one}
 use native.Mathlib.Omega.{arith}
-use borrow.Author.Tests.{lt-ltb, le-ltb, ltb-true, ltb-false}
+use borrow.Author.Tests.{not-true, not-false, lt-ltb, le-ltb, ltb-true, ltb-false}
 use lib.Dec.{ltb}
-use lib.Ieee.{Float, nan}
+use lib.Ieee.{nan}
 use lib.ListN.{length, take, drop, getD, length-take, length-append}
-use Rattle.base.proofs.Cases.{cases, never}
+use Rattle.base.proofs.Cases.{cases}
 use Rattle.base.proofs.Checks.{both-hold}
-use Rattle.roster.specs.Roster.{ofRules}
+use Rattle.roster.specs.Roster.{Roster}
 use Rattle.matchmaker.specs.Quality.{MatchState, seated}
 use Rattle.seating.specs.declared.TeamComposition.{TeamComposition}
 use Rattle.seating.specs.Seating.{seatsOf}
+use Rattle.seating.specs.Steps.{Scored}
 use Rattle.candidate.specs.Walks.{seatedNext, through}
 use Rattle.candidate.proofs.Walking.{through-short}
 use Rattle.constraint.specs.declared.Constraints.{Constraints}
 use Rattle.objective.specs.declared.soft.SoftObjective.{SoftObjective}
 use Rattle.choice.specs.Full.{Terms, terms}
-use Rattle.choice.specs.Steps.{Scored, SoFar, skipped, weighed}
-use Rattle.choice.specs.Sums.{rostered, ratedAt, Summing, idleAt, idleFrom}
+use Rattle.choice.specs.Steps.{SoFar, skipped, weighed}
+use Rattle.choice.specs.Reading.{Columns, StandFor}
+use Rattle.choice.specs.Sums.{Summing, idleAt, idleFrom}
 use Rattle.choice.specs.declared.Sums.{Sums}
+use Rattle.choice.specs.declared.tally.Bounds.{Bounds}
 use Rattle.choice.proofs.Summing.{grown-read, last-score, idle-skipped}
 use Rattle.choice.proofs.Lasting.{last-next}
-
-not-true : (x : Bool) → not x ≡ true → x ≡ false
-not-true true h = never cc
-not-true false h = refl
-
-not-false : (x : Bool) → not x ≡ false → x ≡ true
-not-false true h = refl
-not-false false h = never cc
 
 -- ---- are_idle
 
@@ -73,16 +68,16 @@ module _ (t : Terms) (s : TeamComposition) (q : List ℕ) (m : MatchState) (f : 
   kept tried = record { tried = tried; best = cond found (some p) none; many = many; nan = bad }
 
   -- choices that are each idle are only counted
-  pub all-idle : ((i tried : ℕ) → i < length q → f i ≡ true → skipped (kept tried) ≡ weighed t (kept tried) (seatedNext s m (getD q i 0))) → (n at tried : ℕ) → at + n ≤ length q → idleFrom f at n ≡ true
+  pub all-idle : (last : ℕ) → last ≤ length q → ((i tried : ℕ) → i < last → f i ≡ true → skipped (kept tried) ≡ weighed t (kept tried) (seatedNext s m (getD q i 0))) → (n at tried : ℕ) → at + n ≤ last → idleFrom f at n ≡ true
       → kept (tried + n) ≡ through s (weighed t) m 1 (take n (drop at q)) (kept tried)
   unfolding idleFrom
-  all-idle each zero at tried h e =
+  all-idle last l each zero at tried h e =
       ap kept (omega arith) ∙ through-short s (weighed t) m 1 (take 0 (drop at q)) (kept tried) (omega (arith, length-take 0 (drop at q)))
-  all-idle each (suc n) at tried h e =
+  all-idle last l each (suc n) at tried h e =
       let k = both-hold (f at) (idleFrom f (at + 1) n) e in
       let z : suc n - 1 ≡ n = omega arith in
-      let g = last-next s (weighed t) q m at (suc n) (kept tried) refl (omega arith) h refl (each at tried (omega arith) (k .0)) in
-      ap kept (omega arith) ∙ all-idle each n (at + 1) (tried + 1) (omega arith) (k .1) ∙ (rw z at g)
+      let g = last-next s (weighed t) q m at (suc n) (kept tried) refl (omega arith) (omega arith) refl (each at tried (omega arith) (k .0)) in
+      ap kept (omega arith) ∙ all-idle last l each n (at + 1) (tried + 1) (omega arith) (k .1) ∙ (rw z at g)
 
 -- ---- the next player but one
 
@@ -101,17 +96,17 @@ short-by-two s m p a =
 -- ---- seat_two
 
 -- the choices with the player at a place, whose last seats are all idle
-module _ (ids : List ℕ) (ratings : List Float) (parties roles regions : List ℕ) (c : Constraints) (objectives : List SoftObjective) (count : ℕ) (s : TeamComposition) (q : List ℕ) (a : s .a ≤ 8) (b : s .b ≤ 8) where
-  pub two-idle : (m : MatchState) (x : Sums) (first found many bad : Bool) (p : Scored) (rows : List Bool) (rated : List Float) (at n tried : ℕ) {idle : Bool} → rows ≡ rostered ids ratings q → rated ≡ ratedAt ids ratings q
-      → Summing (ofRules ids ratings parties roles regions) s m x → length (seated m) + 1 ≡ seatsOf s → first ≡ ltb (length (m .a .players)) (s .a)
-      → at + n ≤ length q → idle ≡ idleFrom (idleAt (take count objectives) s rows rated x first found many (p .score)) at n → idle ≡ true
-      → _≡_ {A = SoFar} (record { tried = tried + n; best = cond found (some p) none; many = many; nan = bad })
-      (through s (weighed (terms (ofRules ids ratings parties roles regions) c objectives count)) m 1 (take n (drop at q)) (record { tried = tried; best = cond found (some p) none; many = many; nan = bad }))
-  two-idle m x first found many bad p rows rated at n tried e g fills h k l i j =
-      let r = ofRules ids ratings parties roles regions in
+module _ (r : Roster) (c : Constraints) (n : ℕ) (x : Columns) (b : Bounds) (stands : StandFor r c n x b) (objectives : List SoftObjective) (count : ℕ) (s : TeamComposition) (in-a : s .a ≤ 8) (in-b : s .b ≤ 8) where
+  pub two-idle : (m : MatchState) (sums : Sums) (first found many bad : Bool) (p : Scored) (at k tried : ℕ) {idle : Bool}
+      → Summing r s m sums → length (seated m) + 1 ≡ seatsOf s → first ≡ ltb (length (m .a .players)) (s .a)
+      → at + k ≤ n → at + k ≤ length (x .queued) → idle ≡ idleFrom (idleAt (take count objectives) s (x .rows) (x .rated) sums first found many (p .score)) at k → idle ≡ true
+      → _≡_ {A = SoFar} (record { tried = tried + k; best = cond found (some p) none; many = many; nan = bad })
+      (through s (weighed (terms r c objectives count)) m 1 (take k (drop at (x .queued))) (record { tried = tried; best = cond found (some p) none; many = many; nan = bad }))
+  two-idle m sums first found many bad p at k tried fills h e g l i j =
       let t = terms r c objectives count in
-      all-idle t s q m (idleAt (take count objectives) s rows rated x first found many (p .score)) found many bad p
+      let q = x .queued in
+      all-idle t s q m (idleAt (take count objectives) s (x .rows) (x .rated) sums first found many (p .score)) found many bad p (at + k) l
       (λ y tr w z.
       idle-skipped t (seatedNext s m (getD q y 0)) tr found many bad p
-      (last-score r s m x (getD q y 0) (take count objectives) (getD rows y false) first (getD rated y nan) (grown-read ids ratings q y w e g) fills a b h k) refl z)
-      n at tried l (sym i ∙ j)
+      (last-score r s m sums (getD q y 0) (take count objectives) (getD (x .rows) y false) first (getD (x .rated) y nan) (grown-read (stands .says y (omega arith))) fills in-a in-b h e) refl z)
+      k at tried (omega arith) (sym i ∙ j)

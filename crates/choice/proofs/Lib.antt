@@ -4,4 +4,13 @@ pub mod Stepping
 pub mod Checking
 pub mod Summing
 pub mod Lasting
+pub mod Limits
+pub mod Marking
+pub mod Packing
+pub mod MarkLaws
+pub mod CountLaws
+pub mod Gathered
+pub mod TallyLaws
+pub mod Onward
+pub mod Standing
 pub mod Idle

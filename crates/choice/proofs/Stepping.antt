@@ -4,9 +4,10 @@ use mathlib.Core.Path.{_≡_, refl, sym, ap, subst, _∙_}
 use mathlib.Core.Bool.{Bool, true, false, cond, _&&_, _||_}
 use mathlib.Core.List.{List, [], map}
 use mathlib.Core.Option.{none, some}
-use lib.Ieee.{lt, isNan}
-use lib.ListN.{length, take, drop}
+use lib.Ieee.{Float, lt, isNan}
+use lib.ListN.{take}
 use Rattle.base.specs.declared.Refusal.{Refusal}
+use Rattle.base.specs.Lists.{isSome}
 use Rattle.base.specs.Refusals.{Outcome, refused, gives, refusalNumber}
 use Rattle.base.proofs.Arrays.{take-map}
 use Rattle.base.proofs.Cases.{never, pick}
@@ -15,20 +16,19 @@ use Rattle.matchmaker.specs.declared.ProposedMatch.{ProposedMatch}
 use Rattle.matchmaker.specs.Quality.{MatchState, matchOf}
 use Rattle.seating.specs.declared.TeamComposition.{TeamComposition}
 use Rattle.seating.specs.Seating.{seatsOf, lineup}
-use Rattle.candidate.specs.Choices.{ways}
+use Rattle.seating.specs.Steps.{Scored}
 use Rattle.candidate.specs.Walks.{through}
-use Rattle.candidate.proofs.Walking.{row-length, through-counts}
 use Rattle.choice.specs.declared.Choice.{Choice}
 use Rattle.choice.specs.declared.Verdict.{Verdict}
 use Rattle.choice.specs.declared.Verdict.the-variants as Verdict
-use Rattle.choice.specs.Full.{Terms, Selection, passes, chosen, choiceBy, ChoiceParts}
-use Rattle.choice.specs.Steps.{Scored, SoFar, orBetter, isThere, unweighed, passed, weighed, concluding}
+use Rattle.choice.specs.Full.{Terms, Selection, chosen, choiceBy, ChoiceParts}
+use Rattle.choice.specs.Steps.{SoFar, orBetter, unweighed, passed, skipped, weighed, concluding}
 use Rattle.choice.proofs.Weighing.{best-plain}
 
 -- ---- outdo
 
 -- there is a best where one was found
-there : (found : Bool) (p : Scored) → isThere (cond found (some p) none) ≡ found
+there : (found : Bool) (p : Scored) → isSome (cond found (some p) none) ≡ found
 there true p = refl
 there false p = refl
 
@@ -49,15 +49,9 @@ one-passed tried found many nan p x m i b e = rw (e, there found p, ← m, ← i
 
 -- ---- walk
 
--- each choice is one more that was tried
-pub tried-one : (t : Terms) (b : SoFar) (m : MatchState) → weighed t b m .tried ≡ b .tried + 1
-unfolding weighed
-tried-one t b m = pick (λ (x : SoFar). x .tried ≡ b .tried + 1) (passes t m) refl refl
-
--- and the walk tries every way to choose
-pub all-tried : (t : Terms) (s : TeamComposition) (m : MatchState) (k : ℕ) (q : List ℕ) (from rest : ℕ) (b : SoFar) → from + rest ≤ length q → through s (weighed t) m k (take rest (drop from q)) b .tried ≡ b .tried + ways rest k
-all-tried t s m k q from rest b h =
-    through-counts s (weighed t) (λ (x : SoFar). x .tried) (tried-one t) m k (take rest (drop from q)) b ∙ rw (row-length q from rest h)
+-- each choice is one more that was tried, whether it passes or not
+pub tried-either : (fine : Bool) (b : SoFar) (m : MatchState) (score : Float) → cond fine (passed b m score) (skipped b) .tried ≡ b .tried + 1
+tried-either fine b m score = pick (λ (x : SoFar). x .tried ≡ b .tried + 1) fine refl refl
 
 -- ---- concluded
 
@@ -107,11 +101,8 @@ parts-chosen m n = record { outcome = refl; teams = refl; tried = refl }
 -- ---- best_choice
 
 -- the walk from nobody seated and nothing tried comes to what the full round chooses
-pub all-weighed : (t : Terms) (s : TeamComposition) (es : List QueueEntry) (n : ℕ) {ids : List ℕ} {m : MatchState} {b r : SoFar} → s .a ≤ 8 → s .b ≤ 8 → ids ≡ map (λ x. x .player) es → m ≡ lineup [] [] → b ≡ unweighed
-    → r ≡ through s (weighed t) m (seatsOf s) (take n (drop 0 ids)) b → concluding r ≡ chosen t s (take n es)
-all-weighed t s es n {ids} {m} {b} h g i e u w =
+pub all-weighed : (t : Terms) (s : TeamComposition) (es : List QueueEntry) (n : ℕ) {b : SoFar} → s .a ≤ 8 → s .b ≤ 8 → b ≡ through s (weighed t) (lineup [] []) (seatsOf s) (take n (map (λ x. x .player) es)) unweighed → concluding b ≡ chosen t s (take n es)
+all-weighed t s es n h g w =
     ap concluding
-    (w ∙ ap (λ (x : MatchState). through s (weighed t) x (seatsOf s) (take n ids) b) e
-    ∙ ap (λ (x : SoFar). through s (weighed t) (lineup [] []) (seatsOf s) (take n ids) x) u
-    ∙ ap (λ (x : List ℕ). through s (weighed t) (lineup [] []) (seatsOf s) x unweighed) (ap (take n) i ∙ take-map (λ (x : QueueEntry). x .player) n es))
+    (w ∙ ap (λ (x : List ℕ). through s (weighed t) (lineup [] []) (seatsOf s) x unweighed) (take-map (λ (x : QueueEntry). x .player) n es))
     ∙ best-plain t s (take n es) h g

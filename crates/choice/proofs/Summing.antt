@@ -1,10 +1,9 @@
 -- The sums grow with a choice and give its score, and a choice that scores lower than the best of many is idle.
-use Prim.Native.Nat.{ℕ, zero, suc, _+_, _≤_, _<_}
+use Prim.Native.Nat.{ℕ, _+_, _≤_, _<_}
 use mathlib.Core.Path.{_≡_, refl, sym, ap, _∙_}
 use mathlib.Core.Bool.{Bool, true, false, cond, _&&_, _||_}
-use mathlib.Core.List.{List, [], _∷_, _++_, map, append-nil, append-assoc}
+use mathlib.Core.List.{List, [], _∷_, _++_, append-nil, append-assoc}
 use mathlib.Core.Option.{Option, none, some, Option·getD}
-use native.Mathlib.Nat.{le-of-suc-le-suc, not-suc-le-zero}
 use native.Mathlib.Omega.{arith}
 use borrow.Author.Tests.{lt-ltb, ltb-true, ltb-false}
 use lib.Dec.{ltb}
@@ -12,7 +11,7 @@ use lib.Ieee.{Float, nan, inf, fin, binary64, add, lt, isNan}
 use lib.ListN.{length, getD, length-append}
 use Rattle.base.specs.Floats as Floats
 use Rattle.base.proofs.Cases.{cases, never, pick}
-use Rattle.roster.specs.Roster.{Roster, observe, ratingOf}
+use Rattle.roster.specs.Roster.{Roster, ratingOf}
 use Rattle.matchmaker.specs.Quality.{MatchState, seated, observations, sumOf}
 use Rattle.matchmaker.specs.Steps.{absorb}
 use Rattle.matchmaker.proofs.Laws.{sum-snoc}
@@ -20,33 +19,28 @@ use Rattle.objective.specs.declared.soft.SoftObjective.{SoftObjective}
 use Rattle.objective.specs.Soft.{softScoreOf}
 use Rattle.seating.specs.declared.TeamComposition.{TeamComposition}
 use Rattle.seating.specs.Seating.{seatsOf, lineup}
+use Rattle.seating.specs.Steps.{Scored}
 use Rattle.candidate.specs.Walks.{seatedNext}
 use Rattle.candidate.proofs.Walking.{seat-more}
+use Rattle.constraint.specs.declared.Constraints.{Constraints}
 use Rattle.choice.specs.Full.{Terms, passes, scoreIn}
+use Rattle.choice.specs.Reading.{Columns, Says}
 use Rattle.base.specs.Lists.{isSome}
-use Rattle.choice.specs.Steps.{Scored, skipped, weighed}
-use Rattle.choice.specs.Sums.{rostered, ratedAt, plusRow, noSums, sumsWith, scoreBy, Summing}
+use Rattle.choice.specs.Steps.{skipped, weighed}
+use Rattle.choice.specs.Sums.{plusRow, noSums, sumsWith, scoreBy, Summing}
 use Rattle.choice.specs.declared.Sums.{Sums}
 
 -- ---- what is read once
-
--- what f makes of an element is at the element's place
-getD-made : {A B : Type 0} (f : A → B) (xs : List A) (i : ℕ) (d : A) (e : B) → i < length xs → getD (map f xs) i e ≡ f (getD xs i d)
-getD-made f [] i d e h = absurd (not-suc-le-zero h)
-getD-made f (x ∷ xs) zero d e h = refl
-getD-made f (x ∷ xs) (suc i) d e h = getD-made f xs i d e (le-of-suc-le-suc h)
 
 -- a sum grows by what was observed
 grown-by : (o : Option Float) (sum : Float) → plusRow (isSome o) (Option·getD o Floats.zero) sum ≡ absorb (add binary64) sum o
 grown-by none sum = refl
 grown-by (some x) sum = refl
 
--- what is read of a place makes a sum grow as the roster says of its player
-pub grown-read : (ids : List ℕ) (ratings : List Float) (q : List ℕ) (i : ℕ) {rows : List Bool} {rated : List Float} → i < length q → rows ≡ rostered ids ratings q → rated ≡ ratedAt ids ratings q
-    → (sum : Float) → plusRow (getD rows i false) (getD rated i nan) sum ≡ absorb (add binary64) sum (observe ids ratings (getD q i 0))
-grown-read ids ratings q i h e f sum =
-    rw (e, f, getD-made (λ p. isSome (observe ids ratings p)) q i 0 false h, getD-made (λ p. Option·getD (observe ids ratings p) Floats.zero) q i 0 nan h)
-    (grown-by (observe ids ratings (getD q i 0)) sum)
+-- a sum grows by what the columns say of a place
+pub grown-read : {r : Roster} {c : Constraints} {queue : List ℕ} {x : Columns} {i p : ℕ} → Says r c queue x i p → (sum : Float)
+    → plusRow (getD (x .rows) i false) (getD (x .rated) i nan) sum ≡ absorb (add binary64) sum (ratingOf r p)
+grown-read {r} {p = p} h sum = rw (h .row, h .rating) (grown-by (ratingOf r p) sum)
 
 -- ---- one more player
 
@@ -107,7 +101,7 @@ filling-start r s e f = rw (e, f) (filling-none r s)
 -- ---- the score
 
 -- a match that is full has teams of the two sizes
-full : (r : Roster) (s : TeamComposition) (m : MatchState) (x : Sums) → Summing r s m x → length (seated m) ≡ seatsOf s → (length (m .a .players) ≡ s .a) × (length (m .b .players) ≡ s .b)
+pub full : (r : Roster) (s : TeamComposition) (m : MatchState) (x : Sums) → Summing r s m x → length (seated m) ≡ seatsOf s → (length (m .a .players) ≡ s .a) × (length (m .b .players) ≡ s .b)
 full r s m x fills e =
     let l = length-append (m .a .players) (m .b .players) in
     cases (ltb (length (m .a .players)) (s .a))
@@ -121,7 +115,7 @@ full r s m x fills e =
     (omega (arith, k, fills .room), omega (arith, l, e, k, fills .room)))
 
 -- its score is that of its sums
-full-score : (r : Roster) (s : TeamComposition) (m : MatchState) (x : Sums) (objectives : List SoftObjective) → Summing r s m x → length (seated m) ≡ seatsOf s → scoreBy objectives x (s .a) (s .b) ≡ softScoreOf r m objectives
+pub full-score : (r : Roster) (s : TeamComposition) (m : MatchState) (x : Sums) (objectives : List SoftObjective) → Summing r s m x → length (seated m) ≡ seatsOf s → scoreBy objectives x (s .a) (s .b) ≡ softScoreOf r m objectives
 unfolding scoreBy
 full-score r s m x objectives fills e =
     let f = full r s m x fills e in

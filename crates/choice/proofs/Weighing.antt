@@ -18,11 +18,12 @@ use Rattle.queue.specs.declared.QueueEntry.{QueueEntry}
 use Rattle.matchmaker.specs.Quality.{MatchState}
 use Rattle.seating.specs.declared.TeamComposition.{TeamComposition}
 use Rattle.seating.specs.Seating.{seatsOf, lineup}
+use Rattle.seating.specs.Steps.{Scored}
 use Rattle.candidate.specs.Exhaustive.{exhaustiveMatches}
 use Rattle.candidate.specs.Walks.{through}
 use Rattle.candidate.proofs.Listings.{listing-count, through-split}
 use Rattle.choice.specs.Full.{Terms, passes, scoreIn, passing, bestAmong, chosen}
-use Rattle.choice.specs.Steps.{Scored, SoFar, unweighed, orBetter, passed, skipped, weighed, concluding}
+use Rattle.choice.specs.Steps.{SoFar, unweighed, orBetter, passed, skipped, weighed, concluding}
 
 -- a test or nothing is the test
 or-false : (b : Bool) → (b || false) ≡ b

@@ -1,3 +1,5 @@
 pub mod Full
+pub mod Reading
 pub mod Steps
 pub mod Sums
+pub mod Tallies

@@ -1,17 +1,14 @@
 -- The best so far while the choices are walked, as the code keeps it. No public contract cites this.
 use Prim.Native.Nat.{ℕ, _+_}
-use mathlib.Core.Bool.{Bool, true, false, cond, _&&_, _||_}
+use mathlib.Core.Bool.{Bool, false, cond, _&&_, _||_}
 use mathlib.Core.Option.{Option, none, some}
 use lib.Ieee.{Float, lt, isNan}
-use Rattle.matchmaker.specs.Quality.{MatchState, matchOf}
+use Rattle.base.specs.Lists.{isSome}
 use Rattle.base.specs.Refusals.{Outcome, refused, gives}
+use Rattle.matchmaker.specs.Quality.{MatchState, matchOf}
+use Rattle.seating.specs.Steps.{Scored}
 use Rattle.choice.specs.Full.{Terms, Selection, passes, scoreIn}
 use Rattle.choice.specs.declared.Best.{Best}
-
--- a match with its score
-pub record Scored : Type 0 where
-  pub teams : MatchState
-  pub score : Float
 
 -- how many were tried, the best of those that passed, whether two or more did, and whether one of these scored NaN
 pub record SoFar : Type 0 where
@@ -37,17 +34,13 @@ abbrev pub orBetter : Option Scored → Scored → Scored
 orBetter none x = x
 orBetter (some b) x = cond (lt (x .score) (b .score)) b x
 
-abbrev pub isThere : Option Scored → Bool
-isThere none = false
-isThere (some b) = true
-
 -- one more choice, which passes; one more, which does not
 abbrev pub passed : SoFar → MatchState → Float → SoFar
 passed b m score =
     record {
       tried = b .tried + 1;
       best = some (orBetter (b .best) (record { teams = m; score = score }));
-      many = b .many || isThere (b .best);
+      many = b .many || isSome (b .best);
       nan = b .nan || isNan score;
     }
 

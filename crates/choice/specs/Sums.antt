@@ -2,28 +2,17 @@
 use Prim.Native.Nat.{ℕ, zero, suc, _+_, _≤_}
 use mathlib.Core.Path.{_≡_}
 use mathlib.Core.Bool.{Bool, true, false, cond, _&&_}
-use mathlib.Core.List.{List, [], map}
-use mathlib.Core.Option.{Option·getD}
+use mathlib.Core.List.{List, []}
 use lib.Dec.{ltb}
 use lib.Ieee.{Float, nan, binary64, add, lt}
 use lib.ListN.{length, getD}
 use Rattle.base.specs.Floats as Floats
-use Rattle.roster.specs.Roster.{Roster, observe, ratingOf}
+use Rattle.roster.specs.Roster.{Roster, ratingOf}
 use Rattle.matchmaker.specs.Quality.{MatchState, seated, observations, sumOf, averageFrom, qualityBetween}
 use Rattle.objective.specs.declared.soft.SoftObjective.{SoftObjective}
 use Rattle.objective.specs.Soft.{latencyAt, weightedSum}
 use Rattle.seating.specs.declared.TeamComposition.{TeamComposition}
-use Rattle.base.specs.Lists.{isSome}
 use Rattle.choice.specs.declared.Sums.{Sums}
-
--- ---- what is read once
-
--- of the player at each place: is there a row, and which rating has it?
-abbrev pub rostered : List ℕ → List Float → List ℕ → List Bool
-rostered ids ratings = map (λ p. isSome (observe ids ratings p))
-
-abbrev pub ratedAt : List ℕ → List Float → List ℕ → List Float
-ratedAt ids ratings = map (λ p. Option·getD (observe ids ratings p) Floats.zero)
 
 -- ---- the sums
 

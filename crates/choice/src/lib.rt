@@ -1,30 +1,35 @@
 // The best choice of a full round: every choice of the queue is tried, and the best of those that pass is kept.
 ghost use mathlib.Core.Path.{_≡_};
-ghost use mathlib.Core.Bool.{_&&_};
+ghost use mathlib.Core.Bool.{cond, _&&_};
 ghost use lib.Dec.{ltb};
 ghost use lib.Ieee.{lt};
-ghost use Prim.Native.Nat.{_+_, _≤_, _<_, _^_};
-ghost use mathlib.Core.List.{[]};
-ghost use lib.ListN.{length, take, drop};
-ghost use Rattle.base.specs.Refusals.{refused, refusalNumber, checkedOf};
+ghost use Prim.Native.Nat.{ℕ, _+_, _*_, _≤_, _<_, _^_};
+ghost use mathlib.Core.List.{[], map};
+ghost use lib.ListN.{length, take, getD};
+ghost use Rattle.base.specs.Refusals.{refused, gives, refusalNumber, checkedOf};
 ghost use Rattle.queue.specs.Queue.{queueOf};
-ghost use Rattle.base.specs.Floats as Floats;
 ghost use Rattle.roster.specs.Roster.{ofRules};
 ghost use Rattle.matchmaker.specs.Quality.{matchOf, seated};
 ghost use Rattle.seating.specs.Seating.{seatsOf, lineup};
 ghost use Rattle.candidate.specs.Choices.{ways};
 ghost use Rattle.candidate.specs.Walks.{through};
 ghost use Rattle.choice.specs.Full.{terms, termsCheck, choiceCheck, choiceRule, ChoiceParts};
+ghost use Rattle.choice.specs.Reading.{oneEach, columns};
 ghost use Rattle.choice.specs.Steps.{soFarOf, passed, skipped, skippedBy, weighed, unweighed, concluding};
-ghost use Rattle.choice.specs.Sums.{rostered, ratedAt, plusRow, sumsWith, scoreBy, noSums, Summing, idleAt, idleFrom};
+ghost use Rattle.choice.specs.Sums.{plusRow, sumsWith, scoreBy, noSums, idleAt, idleFrom};
+ghost use Rattle.choice.specs.Tallies.{Walked};
+use crate::tally::Bounds;
+use crate::tally::Tally;
 use base::Checked;
 use base::Refusal;
 use constraint::Constraints;
 use matchmaker::ProposedMatch;
 use objective::soft::SoftObjective;
 use queue::Queue;
-use roster::Observed;
 use seating::TeamComposition;
+
+mod marks;
+mod tally;
 
 // The best so far: the last of those that score highest, where one passed; how many were tried; did two or more pass, and did one
 // of them score NaN?
@@ -108,60 +113,15 @@ fn skip_all(best: Best, many: usize) -> Best
     next
 }
 
-// One more choice.
-fn weigh(
-    constraints: Constraints,
-    objectives: [SoftObjective; 8],
-    count: usize,
-    ids: &[u64],
-    ratings: &[f64],
-    parties: &[u64],
-    roles: &[u32],
-    regions: &[u8],
-    best: Best,
-    teams: ProposedMatch,
-) -> Best
+// One more choice: does it pass, and its score.
+fn weigh(best: Best, passes: bool, teams: ProposedMatch, score: f64) -> Best
     requires { ⌜ best .tried + 1 < 2 ^ 64 ⌝ }
-    ensures { λ r. ⌜ soFarOf r ≡ weighed (terms (ofRules (now (ids .entry)) (now (ratings .entry)) (now (parties .entry)) (now (roles .entry)) (now (regions .entry))) constraints objectives count) (soFarOf best) (matchOf teams) ⌝ }
+    ensures { λ r. ⌜ soFarOf r ≡ cond passes (passed (soFarOf best) (matchOf teams) score) (skipped (soFarOf best)) ⌝ }
 {
-    if constraints.hold(teams, ids, ratings, parties, roles, regions) {
-        return outdo(
-            best,
-            teams,
-            objective::soft::rated_soft_score(objectives, count, teams, ids, ratings),
-        );
+    if passes {
+        return outdo(best, teams, score);
     }
     skip(best)
-}
-
-// ---- what is read once: of the player at each place, is there a row, and which rating has it?
-
-fn rows_of(queued: &[u64; 64], ids: &[u64], ratings: &[f64]) -> [bool; 64]
-    requires { ⌜ length (now queued) ≡ 64 ⌝ }
-    ensures { λ r. ⌜ r ≡ rostered (now (ids .entry)) (now (ratings .entry)) (now (queued .entry)) ⌝ }
-{
-    let mut out = [false; 64];
-    let mut i: usize = 0;
-    while i < 64 {
-        let observed = roster::observation(ids, ratings, queued[i]);
-        out[i] = observed.is_something();
-        i += 1;
-    }
-    out
-}
-
-fn ratings_of(queued: &[u64; 64], ids: &[u64], ratings: &[f64]) -> [f64; 64]
-    requires { ⌜ length (now queued) ≡ 64 ⌝ }
-    ensures { λ r. ⌜ r ≡ ratedAt (now (ids .entry)) (now (ratings .entry)) (now (queued .entry)) ⌝ }
-{
-    let mut out = [0.0; 64];
-    let mut i: usize = 0;
-    while i < 64 {
-        let observed = roster::observation(ids, ratings, queued[i]);
-        out[i] = observed.or_zero();
-        i += 1;
-    }
-    out
 }
 
 // ---- the score of a choice, from sums that grow with it
@@ -258,7 +218,7 @@ fn is_a_short(sizes: TeamComposition, teams: ProposedMatch) -> bool
 
 // Does the next but one join team A?
 fn is_a_short_by_two(sizes: TeamComposition, teams: ProposedMatch) -> bool
-    requires { ⌜ length (matchOf teams .a .players) ≤ 8 ⌝ }
+    requires { ⌜ length (matchOf teams .a .players) ≤ 16 ⌝ }
     ensures { λ r. ⌜ r ≡ ltb (length (matchOf teams .a .players) + 1) (sizes .a) ⌝ }
 {
     let a = teams.a;
@@ -268,32 +228,32 @@ fn is_a_short_by_two(sizes: TeamComposition, teams: ProposedMatch) -> bool
 // ---- the walk through all choices
 
 // The last seat: it goes to each of the `rest` players from `from` on in turn. A choice that cannot change the best so far by its
-// score is only counted; the constraints are held against the others.
+// score is only counted; the others are weighed.
 fn seat_last(
     sizes: TeamComposition,
     queued: &[u64; 64],
     rows: &[bool; 64],
     rated: &[f64; 64],
+    admits: &[bool; 64],
+    counts: &[u64; 64],
+    same: &[u64; 64],
+    friends: &[u64; 64],
+    foes: &[u64; 64],
     from: usize,
     rest: usize,
     teams: ProposedMatch,
     sums: Sums,
-    constraints: Constraints,
+    tally: Tally,
+    bounds: Bounds,
     objectives: [SoftObjective; 8],
     count: usize,
-    ids: &[u64],
-    ratings: &[f64],
-    parties: &[u64],
-    roles: &[u32],
-    regions: &[u8],
     best: Best,
 ) -> Best
     requires { ⌜ (sizes .a ≤ 8) × ((sizes .b ≤ 8) × ((from + rest ≤ 64) × (length (seated (matchOf teams)) + 1 ≡ seatsOf sizes))) ⌝ }
     requires { ⌜ length (now queued) ≡ 64 ⌝ }
-    requires { ⌜ best .tried + rest < 2 ^ 64 ⌝ }
-    requires { ⌜ (now rows ≡ rostered (now ids) (now ratings) (now queued)) × (now rated ≡ ratedAt (now ids) (now ratings) (now queued)) ⌝ }
-    requires { ⌜ Summing (ofRules (now ids) (now ratings) (now parties) (now roles) (now regions)) sizes (matchOf teams) sums ⌝ }
-    ensures { λ r. ⌜ soFarOf r ≡ through sizes (weighed (terms (ofRules (now (ids .entry)) (now (ratings .entry)) (now (parties .entry)) (now (roles .entry)) (now (regions .entry))) constraints objectives count)) (matchOf teams) 1 (take rest (drop from (now (queued .entry)))) (soFarOf best) ⌝ }
+    requires { ⌜ best .tried + ways rest 1 < 2 ^ 64 ⌝ }
+    requires { ⌜ (tally .counts + 1 * oneEach < 2 ^ 64) × ((i : ℕ) → getD (now counts) i 0 ≤ oneEach) ⌝ }
+    ensures { λ r. ⌜ (r .tried ≡ best .tried + ways rest 1) × Walked sizes (columns (now (queued .entry)) (now (rows .entry)) (now (rated .entry)) (now (admits .entry)) (now (counts .entry)) (now (same .entry)) (now (friends .entry)) (now (foes .entry))) bounds from rest 1 (matchOf teams) sums tally objectives count (soFarOf best) (soFarOf r) ⌝ }
 {
     let first = is_a_short(sizes, teams);
     let mut out = best;
@@ -307,19 +267,10 @@ fn seat_last(
             at += 1;
             left -= 1;
         } else {
-            let full = candidate::exhaustive::seat(sizes, teams, queued[at]);
-            out = weigh(
-                constraints,
-                objectives,
-                count,
-                ids,
-                ratings,
-                parties,
-                roles,
-                regions,
-                out,
-                full,
-            );
+            let full = tally::tally_with(tally, first, admits, counts, same, friends, foes, at);
+            let passes = tally::passes(bounds, full);
+            let with = candidate::exhaustive::seat(sizes, teams, queued[at]);
+            out = weigh(out, passes, with, score);
             at += 1;
             left -= 1;
         }
@@ -334,26 +285,26 @@ fn seat_two(
     queued: &[u64; 64],
     rows: &[bool; 64],
     rated: &[f64; 64],
+    admits: &[bool; 64],
+    counts: &[u64; 64],
+    same: &[u64; 64],
+    friends: &[u64; 64],
+    foes: &[u64; 64],
     from: usize,
     rest: usize,
     teams: ProposedMatch,
     sums: Sums,
-    constraints: Constraints,
+    tally: Tally,
+    bounds: Bounds,
     objectives: [SoftObjective; 8],
     count: usize,
-    ids: &[u64],
-    ratings: &[f64],
-    parties: &[u64],
-    roles: &[u32],
-    regions: &[u8],
     best: Best,
 ) -> Best
     requires { ⌜ (sizes .a ≤ 8) × ((sizes .b ≤ 8) × ((from + rest ≤ 64) × (length (seated (matchOf teams)) + 2 ≡ seatsOf sizes))) ⌝ }
     requires { ⌜ length (now queued) ≡ 64 ⌝ }
     requires { ⌜ best .tried + ways rest 2 < 2 ^ 64 ⌝ }
-    requires { ⌜ (now rows ≡ rostered (now ids) (now ratings) (now queued)) × (now rated ≡ ratedAt (now ids) (now ratings) (now queued)) ⌝ }
-    requires { ⌜ Summing (ofRules (now ids) (now ratings) (now parties) (now roles) (now regions)) sizes (matchOf teams) sums ⌝ }
-    ensures { λ r. ⌜ soFarOf r ≡ through sizes (weighed (terms (ofRules (now (ids .entry)) (now (ratings .entry)) (now (parties .entry)) (now (roles .entry)) (now (regions .entry))) constraints objectives count)) (matchOf teams) 2 (take rest (drop from (now (queued .entry)))) (soFarOf best) ⌝ }
+    requires { ⌜ (tally .counts + 2 * oneEach < 2 ^ 64) × ((i : ℕ) → getD (now counts) i 0 ≤ oneEach) ⌝ }
+    ensures { λ r. ⌜ (r .tried ≡ best .tried + ways rest 2) × Walked sizes (columns (now (queued .entry)) (now (rows .entry)) (now (rated .entry)) (now (admits .entry)) (now (counts .entry)) (now (same .entry)) (now (friends .entry)) (now (foes .entry))) bounds from rest 2 (matchOf teams) sums tally objectives count (soFarOf best) (soFarOf r) ⌝ }
 {
     let first = is_a_short(sizes, teams);
     let second = is_a_short_by_two(sizes, teams);
@@ -381,23 +332,25 @@ fn seat_two(
             behind -= 1;
         } else {
             let with = candidate::exhaustive::seat(sizes, teams, queued[at]);
+            let grown = tally::tally_with(tally, first, admits, counts, same, friends, foes, at);
             out = seat_last(
                 sizes,
                 queued,
                 rows,
                 rated,
+                admits,
+                counts,
+                same,
+                friends,
+                foes,
                 at + 1,
                 behind - 1,
                 with,
                 next,
-                constraints,
+                grown,
+                bounds,
                 objectives,
                 count,
-                ids,
-                ratings,
-                parties,
-                roles,
-                regions,
                 out,
             );
             at += 1;
@@ -414,44 +367,34 @@ fn walk(
     queued: &[u64; 64],
     rows: &[bool; 64],
     rated: &[f64; 64],
+    admits: &[bool; 64],
+    counts: &[u64; 64],
+    same: &[u64; 64],
+    friends: &[u64; 64],
+    foes: &[u64; 64],
     from: usize,
     rest: usize,
     left: usize,
     teams: ProposedMatch,
     sums: Sums,
-    constraints: Constraints,
+    tally: Tally,
+    bounds: Bounds,
     objectives: [SoftObjective; 8],
     count: usize,
-    ids: &[u64],
-    ratings: &[f64],
-    parties: &[u64],
-    roles: &[u32],
-    regions: &[u8],
     best: Best,
 ) -> Best
     requires { ⌜ (sizes .a ≤ 8) × ((sizes .b ≤ 8) × ((from + rest ≤ 64) × (length (seated (matchOf teams)) + left ≡ seatsOf sizes))) ⌝ }
     requires { ⌜ length (now queued) ≡ 64 ⌝ }
     requires { ⌜ best .tried + ways rest left < 2 ^ 64 ⌝ }
-    requires { ⌜ (now rows ≡ rostered (now ids) (now ratings) (now queued)) × (now rated ≡ ratedAt (now ids) (now ratings) (now queued)) ⌝ }
-    requires { ⌜ Summing (ofRules (now ids) (now ratings) (now parties) (now roles) (now regions)) sizes (matchOf teams) sums ⌝ }
-    ensures { λ r. ⌜ soFarOf r ≡ through sizes (weighed (terms (ofRules (now (ids .entry)) (now (ratings .entry)) (now (parties .entry)) (now (roles .entry)) (now (regions .entry))) constraints objectives count)) (matchOf teams) left (take rest (drop from (now (queued .entry)))) (soFarOf best) ⌝ }
+    requires { ⌜ (tally .counts + left * oneEach < 2 ^ 64) × ((i : ℕ) → getD (now counts) i 0 ≤ oneEach) ⌝ }
+    ensures { λ r. ⌜ (r .tried ≡ best .tried + ways rest left) × Walked sizes (columns (now (queued .entry)) (now (rows .entry)) (now (rated .entry)) (now (admits .entry)) (now (counts .entry)) (now (same .entry)) (now (friends .entry)) (now (foes .entry))) bounds from rest left (matchOf teams) sums tally objectives count (soFarOf best) (soFarOf r) ⌝ }
 {
     if rest < left {
         return best;
     }
     if left == 0 {
-        return weigh(
-            constraints,
-            objectives,
-            count,
-            ids,
-            ratings,
-            parties,
-            roles,
-            regions,
-            best,
-            teams,
-        );
+        let score = score_of(objectives, count, sums, sizes.a, sizes.b);
+        return weigh(best, tally::passes(bounds, tally), teams, score);
     }
     if left == 2 {
         return seat_two(
@@ -459,42 +402,45 @@ fn walk(
             queued,
             rows,
             rated,
+            admits,
+            counts,
+            same,
+            friends,
+            foes,
             from,
             rest,
             teams,
             sums,
-            constraints,
+            tally,
+            bounds,
             objectives,
             count,
-            ids,
-            ratings,
-            parties,
-            roles,
-            regions,
             best,
         );
     }
     let first = is_a_short(sizes, teams);
     let with = candidate::exhaustive::seat(sizes, teams, queued[from]);
     let next = sums_with(sums, first, rows[from], rated[from]);
+    let grown = tally::tally_with(tally, first, admits, counts, same, friends, foes, from);
     let mid = walk(
         sizes,
         queued,
         rows,
         rated,
+        admits,
+        counts,
+        same,
+        friends,
+        foes,
         from + 1,
         rest - 1,
         left - 1,
         with,
         next,
-        constraints,
+        grown,
+        bounds,
         objectives,
         count,
-        ids,
-        ratings,
-        parties,
-        roles,
-        regions,
         best,
     );
     if rest == left {
@@ -505,19 +451,20 @@ fn walk(
         queued,
         rows,
         rated,
+        admits,
+        counts,
+        same,
+        friends,
+        foes,
         from + 1,
         rest - 1,
         left,
         teams,
         sums,
-        constraints,
+        tally,
+        bounds,
         objectives,
         count,
-        ids,
-        ratings,
-        parties,
-        roles,
-        regions,
         mid,
     )
 }
@@ -651,6 +598,61 @@ fn check(
     Checked::Passed
 }
 
+// The best of all choices of A + B players of the queue, which passed its check.
+fn best_of(
+    queue: Queue,
+    sizes: TeamComposition,
+    constraints: Constraints,
+    objectives: [SoftObjective; 8],
+    count: usize,
+    ids: &[u64],
+    ratings: &[f64],
+    parties: &[u64],
+    roles: &[u32],
+    regions: &[u8],
+) -> Best
+    requires { ⌜ choiceCheck (ofRules (now ids) (now ratings) (now parties) (now roles) (now regions)) constraints count sizes (queueOf queue) ≡ gives tt ⌝ }
+    ensures { λ r. ⌜ soFarOf r ≡ through sizes (weighed (terms (ofRules (now (ids .entry)) (now (ratings .entry)) (now (parties .entry)) (now (roles .entry)) (now (regions .entry))) constraints objectives count)) (lineup [] []) (seatsOf sizes) (take (queue .len) (map (λ e. e .player) (queue .entries))) unweighed ⌝ }
+{
+    let n = queue.len;
+    let column = queue.players();
+    let queued = column.ids;
+    let brought = constraints.brought;
+    let mut rows = [false; 64];
+    roster::places::write_known(ids, ratings, &queued[..n], &mut rows);
+    let mut rated = [0.0; 64];
+    roster::places::write_values(ids, ratings, &queued[..n], &mut rated);
+    let admits = marks::admits_of(brought, &queued[..n], ids, ratings, parties);
+    let required = marks::required(brought.roles, constraints.roles);
+    let counts = marks::counts_of(required, &queued, n, ids, roles);
+    let same = marks::same_of(&queued, n);
+    let party = marks::parties_of(brought.parties, &queued, n, ids, parties);
+    let friends = marks::friends_of(&party, n);
+    let region = marks::regions_of(brought.regions, &queued, n, ids, regions);
+    let foes = marks::foes_of(constraints.regions, &region, n);
+    walk(
+        sizes,
+        &queued,
+        &rows,
+        &rated,
+        &admits,
+        &counts,
+        &same,
+        &friends,
+        &foes,
+        0,
+        n,
+        sizes.a + sizes.b,
+        seating::nobody(),
+        unsummed(),
+        tally::begun(brought.sizes, constraints.sizes, sizes),
+        marks::bounds_of(required),
+        objectives,
+        count,
+        untried(),
+    )
+}
+
 // The best choice of A + B players of the queue, if one passes.
 pub fn best_choice(
     queue: Queue,
@@ -679,20 +681,9 @@ pub fn best_choice(
     ) {
         return refuse(refusal);
     }
-    let column = queue.players();
-    let queued = column.ids;
-    let rows = rows_of(&queued, ids, ratings);
-    let rated = ratings_of(&queued, ids, ratings);
-    let best = walk(
+    concluded(best_of(
+        queue,
         sizes,
-        &queued,
-        &rows,
-        &rated,
-        0,
-        queue.len,
-        sizes.a + sizes.b,
-        seating::nobody(),
-        unsummed(),
         constraints,
         objectives,
         count,
@@ -701,7 +692,5 @@ pub fn best_choice(
         parties,
         roles,
         regions,
-        untried(),
-    );
-    concluded(best)
+    ))
 }

@@ -1,7 +1,7 @@
 -- The laws of parties, ratings and regions: the turns of their loops, the answers of each kind, and what bringing nothing,
 -- an empty list of pairs and a pair turned round come to.
 use Prim.Native.Nat.{ℕ, _+_, _≤_, _<_}
-use mathlib.Core.Path.{_≡_, refl, sym, _∙_}
+use mathlib.Core.Path.{_≡_, refl, sym, ap, _∙_}
 use mathlib.Core.Bool.{true, false, not, _&&_, or-comm, and-false}
 use mathlib.Core.List.{List, [], _∷_}
 use native.Mathlib.Numerals.{add-one}
@@ -11,9 +11,9 @@ use lib.ListN.{length, drop, getD, drop-of-length-le}
 use lib.Seq.{drop-cons}
 use Rattle.base.specs.Lists.{seek, every, member}
 use Rattle.base.proofs.Members.{every-fails}
-use Rattle.roster.specs.Roster.{Roster, regionOf}
-use Rattle.matchmaker.specs.Quality.{MatchState}
-use Rattle.constraint.specs.Constraints.{partySeated, allows, mayMeet, pairsOf, constraintsHold}
+use Rattle.roster.specs.Roster.{Roster, partyOf, regionOf}
+use Rattle.matchmaker.specs.Quality.{MatchState, seated}
+use Rattle.constraint.specs.Constraints.{partySeated, partyTogether, partiesHold, allows, mayMeet, pairsOf, constraintsHold}
 use Rattle.constraint.specs.declared.regions.RegionPair.{RegionPair}
 use Rattle.constraint.specs.declared.Constraints.{Constraints}
 
@@ -36,7 +36,7 @@ module _ (players : List ℕ) (party : ℕ) (ids parties : List ℕ) (i : ℕ) (
   seated-short h = sym (inv ∙ rw (drop-of-length-le parties h) (no-rows players party (drop i ids)))
 
   module _ (h : i < length ids) (k : i < length parties) where
-    -- the row at i is of the party, and its player is not seated
+    -- the row at i is of the party, and its player is not among them
     pub seated-not : not (eqb (getD parties i 0) party && not (member (getD ids i 0) players)) ≡ false → false ≡ partySeated ids parties players party
     unfolding partySeated
     seated-not e = sym (inv ∙ rw (drop-cons ids i 0 h, drop-cons parties i 0 k, not-false (eqb (getD parties i 0) party && not (member (getD ids i 0) players)) e))
@@ -45,6 +45,10 @@ module _ (players : List ℕ) (party : ℕ) (ids parties : List ℕ) (i : ℕ) (
     pub seated-on : not (eqb (getD parties i 0) party && not (member (getD ids i 0) players)) ≡ true → partySeated ids parties players party ≡ partySeated (drop (i + 1) ids) (drop (i + 1) parties) players party
     unfolding partySeated
     seated-on e = inv ∙ rw (drop-cons ids i 0 h, drop-cons parties i 0 k, not-true (eqb (getD parties i 0) party && not (member (getD ids i 0) players)) e, add-one i)
+
+-- parties hold exactly where everyone on a list of those seated has the whole party on that list
+pub parties-read : (r : Roster) (m : MatchState) (everyone : List ℕ) → everyone ≡ seated m → every (λ player. partyTogether r everyone (partyOf r player)) everyone ≡ partiesHold r m
+parties-read r m everyone e = ap (λ (players : List ℕ). every (λ player. partyTogether r players (partyOf r player)) players) e
 
 -- ---- what the constraints come to
 

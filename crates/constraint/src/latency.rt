@@ -13,7 +13,7 @@ use matchmaker::Team;
 use roster::Observed;
 
 // Is the player's rating above 0.0? A player without a row passes.
-fn is_above_zero(ids: &[u64], ratings: &[f64], player: u64) -> bool
+pub fn is_above_zero(ids: &[u64], ratings: &[f64], player: u64) -> bool
     ensures { λ r. ⌜ r ≡ aboveZero (ratingOf (ofRatings (now (ids .entry)) (now (ratings .entry))) player) ⌝ }
 {
     match roster::observation(ids, ratings, player) {

@@ -114,7 +114,7 @@ impl RegionConstraint {
     }
 
     // May the two regions meet? One without a record may meet any.
-    pub(crate) fn may_meet(self, x: u8, y: u8) -> bool
+    pub fn may_meet(self, x: u8, y: u8) -> bool
         ensures { λ r. ⌜ r ≡ mayMeet (pairsOf self) x y ⌝ }
     {
         if x == 4 {

@@ -94,7 +94,7 @@ impl RoleConstraint {
     }
 
     // How many requirements there are, whatever number is stated.
-    pub(crate) fn held(self) -> usize
+    pub fn held(self) -> usize
         ensures { λ r. ⌜ r ≡ length (requirementsOf self) ⌝ }
     {
         if 8 < self.count {

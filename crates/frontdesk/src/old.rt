@@ -162,7 +162,7 @@ fn greedy(roster: Roster, old: Queue, asked: Asked, players: &mut [u64]) -> Form
     timely(formed, asked.clock)
 }
 
-// The greedy search takes no clock, but the waits that are shown do: a late one is refused after all else, as in a round.
+// The greedy search takes no clock, but the waits that are shown do: one above 2^53 is refused after all else, as in a round.
 fn timely(formed: Formed, clock: u64) -> Formed {
     let Formed::Count(count) = formed else {
         return formed;

@@ -10,7 +10,6 @@ pub mod Runs
 pub mod Plain
 pub mod Seats
 pub mod Until
-pub mod Checked
 pub mod Drawn
 pub mod LongerWait
 pub mod Copies

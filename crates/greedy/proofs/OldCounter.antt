@@ -13,7 +13,8 @@ use Rattle.roster.specs.Roster.{Roster}
 use Rattle.matchmaker.specs.Quality.{MatchState, qualityOf}
 use Rattle.seating.specs.declared.TeamComposition.{TeamComposition}
 use Rattle.seating.specs.Seating.{Sheets, handedOut, toldBy}
-use Rattle.greedy.specs.Greedy.{greedyMatches, greedyCheck, greedyRule}
+use Rattle.seating.specs.Searching.{searchCheck}
+use Rattle.greedy.specs.Greedy.{greedyMatches, greedyRule}
 use Rattle.seating.specs.Seats.{Seating}
 use Rattle.greedy.specs.Copies.{Copied}
 use Rattle.greedy.specs.OldCounter.{OldCounter}
@@ -28,7 +29,7 @@ quality r m = qualityOf r (m .a .players) (m .b .players)
 -- what a greedy search leaves, told off its sheet
 pub greedy-told : (s : TeamComposition) (r : Roster) (q : QueueState) (sheets : Sheets) → Seating s (q .entries) (toldBy s (greedyRule s r q sheets))
 greedy-told s r q sheets =
-    let check = greedyCheck s r q (length (sheets .players)) (length (sheets .qualities)) in
+    let check = searchCheck s r q (length (sheets .players)) (length (sheets .qualities)) in
     told-seating s (q .entries) (quality r) sheets (guarded check (gives (greedyMatches s r (q .entries))))
     (λ ms e. subst (Drawn s (q .entries)) (given (passed-to check _ e .1)) (greedy-drawn s r (q .entries)))
 
@@ -37,7 +38,7 @@ greedy-told s r q sheets =
 -- a greedy search that is not refused hands out its matches
 greedy-hands : (s : TeamComposition) (r : Roster) (q : QueueState) (sheets : Sheets) (n : ℕ) → greedyRule s r q sheets .answer ≡ gives n →
     greedyRule s r q sheets ≡ handedOut (quality r) (gives (greedyMatches s r (q .entries))) sheets
-greedy-hands s r q sheets n = go (greedyCheck s r q (length (sheets .players)) (length (sheets .qualities)))
+greedy-hands s r q sheets n = go (searchCheck s r q (length (sheets .players)) (length (sheets .qualities)))
   where
     go : (check : Outcome (Unit {0})) → handedOut (quality r) (guarded check (gives (greedyMatches s r (q .entries)))) sheets .answer ≡ gives n →
         handedOut (quality r) (guarded check (gives (greedyMatches s r (q .entries)))) sheets ≡ handedOut (quality r) (gives (greedyMatches s r (q .entries))) sheets

@@ -8,14 +8,15 @@ use lib.Ieee.{Float, inf, binary64, sub, lt, eq}
 use lib.ListN.{length}
 use Rattle.base.specs.Floats as Floats
 use Rattle.base.specs.Floats.{absOf}
-use Rattle.base.specs.Refusals.{Outcome, refused, gives, guarded}
-use Rattle.base.specs.Lists.{any, member}
+use Rattle.base.specs.Refusals.{gives, guarded}
+use Rattle.base.specs.Lists.{member}
 use Rattle.queue.specs.declared.QueueEntry.{QueueEntry}
-use Rattle.queue.specs.Queue.{QueueState, joinedOver, withoutAll}
-use Rattle.roster.specs.Roster.{Roster, ratingOf, ratingsCheck}
+use Rattle.queue.specs.Queue.{QueueState, withoutAll}
+use Rattle.roster.specs.Roster.{Roster, ratingOf}
 use Rattle.matchmaker.specs.Quality.{MatchState, sumOf, averageFrom, qualityOf}
 use Rattle.seating.specs.declared.TeamComposition.{TeamComposition}
-use Rattle.seating.specs.Seating.{Sheets, HandedOut, sizesOver, areShort, handedOut}
+use Rattle.seating.specs.Seating.{Sheets, HandedOut, handedOut}
+use Rattle.seating.specs.Searching.{searchCheck}
 use Rattle.seating.specs.Turns.{alone, seatsLeft, takesA, grown, complete}
 
 -- ---- a pick
@@ -102,15 +103,9 @@ greedyMatches s r queue = foldl (anchored s r queue) begun queue .matches
 
 -- ---- GreedySearch::search
 
--- refusals 1, 2, 3 and 4; of the sheets only the lengths count
-abbrev pub greedyCheck : TeamComposition → Roster → QueueState → ℕ → ℕ → Outcome Unit
-greedyCheck s r q players qualities =
-    cond (ltb 64 (q .size) || sizesOver s) (refused 1)
-    (guarded (ratingsCheck r) (cond (areShort players qualities) (refused 3) (cond (any joinedOver (q .entries)) (refused 4) (gives tt))))
-
--- the matches, each with its match_quality
+-- refusals 1, 2, 3 and 4, or the matches, each with its match_quality
 abbrev pub greedyRule : TeamComposition → Roster → QueueState → Sheets → HandedOut
 greedyRule s r q sheets =
     handedOut (λ m. qualityOf r (m .a .players) (m .b .players))
-    (guarded (greedyCheck s r q (length (sheets .players)) (length (sheets .qualities))) (gives (greedyMatches s r (q .entries))))
+    (guarded (searchCheck s r q (length (sheets .players)) (length (sheets .qualities))) (gives (greedyMatches s r (q .entries))))
     sheets

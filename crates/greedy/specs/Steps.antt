@@ -1,19 +1,19 @@
 -- Greedy search as the code goes: used marks by place, columns that were read once, running sums. No public contract cites this.
 use Prim.Native.Nat.{ℕ, zero, suc, _+_, _-_, min}
-use mathlib.Core.Bool.{Bool, true, false, cond, _||_}
+use mathlib.Core.Bool.{Bool, true, false, cond}
 use mathlib.Core.List.{List, [], _∷_, _++_}
-use lib.Dec.{ltb, leb, eqb}
+use lib.Dec.{leb, eqb}
 use lib.Ieee.{Float, nan, inf, binary64, add, sub, neg, lt}
 use lib.ListN.{length, take, drop, getD, set, replicate}
 use Rattle.base.specs.Floats as Floats
 use Rattle.base.specs.Lists.{any, times}
-use Rattle.base.specs.Refusals.{Outcome, refused, gives, guarded}
+use Rattle.base.specs.Refusals.{refused, gives}
 use Rattle.queue.specs.declared.QueueEntry.{QueueEntry}
 use Rattle.queue.specs.Queue.{joinedOver}
-use Rattle.roster.specs.Roster.{Roster, ratingsCheck}
+use Rattle.roster.specs.Roster.{Roster}
 use Rattle.matchmaker.specs.Quality.{MatchState, matchOf, averageFrom, seated, qualityOf}
 use Rattle.seating.specs.declared.TeamComposition.{TeamComposition}
-use Rattle.seating.specs.Seating.{Sheets, HandedOut, sizesOver, areShort, handedOut}
+use Rattle.seating.specs.Seating.{Sheets, HandedOut, handedOut}
 use Rattle.seating.specs.Steps.{overlaid}
 use Rattle.seating.specs.Turns.{alone, seatsLeft, takesA, grown, complete}
 use Rattle.greedy.specs.Greedy.{distance, greedyMatches}
@@ -182,12 +182,7 @@ added r m p =
 abbrev pub forming : TeamComposition → Roster → MatchState → Paper → Paper
 forming s r m p = cond (complete s m) (added r m p) p
 
--- ---- refusals
-
--- refusals 1, 2 and 3, of all but the entries
-abbrev pub firstCheck : TeamComposition → Roster → ℕ → ℕ → ℕ → Outcome Unit
-firstCheck s r n players qualities =
-    cond (ltb 64 n || sizesOver s) (refused 1) (guarded (ratingsCheck r) (cond (areShort players qualities) (refused 3) (gives tt)))
+-- ---- what is handed out
 
 -- refusal 4, or the matches, and the sheets as they are left
 abbrev pub handing : TeamComposition → Roster → List QueueEntry → Sheets → HandedOut

@@ -4,8 +4,6 @@ ghost use mathlib.Core.List.{map};
 ghost use Prim.Native.Nat.{_+_, _-_, _≤_, _<_, min};
 ghost use lib.Ieee.{nan};
 ghost use lib.ListN.{length, take, getD};
-ghost use Rattle.base.specs.Floats as Floats;
-ghost use Rattle.base.specs.Refusals.{checkedOf};
 ghost use Rattle.base.specs.Lists.{All};
 ghost use Rattle.queue.specs.Queue.{queueOf};
 ghost use Rattle.roster.specs.Roster.{ofRatings};
@@ -13,13 +11,12 @@ ghost use Rattle.seating.specs.Seating.{leaving};
 ghost use Rattle.seating.specs.Steps.{RatedOut};
 ghost use Rattle.seating.specs.Turns.{seatsLeft};
 ghost use Rattle.matchmaker.specs.Quality.{matchOf};
-ghost use Rattle.greedy.specs.Greedy.{greedyCheck, greedyRule};
-ghost use Rattle.greedy.specs.Steps.{columns, magnitudeOf, nearOf, nearerFree, nearerOf, nearestFree, struck, marked, freeOf, fillOf, opening, picking, filling, running, unmarked, paperOf, forming, firstCheck, handing};
+ghost use Rattle.greedy.specs.Greedy.{greedyRule};
+ghost use Rattle.greedy.specs.Steps.{columns, magnitudeOf, nearOf, nearerFree, nearerOf, nearestFree, struck, marked, freeOf, fillOf, opening, picking, filling, running, unmarked, paperOf, forming, handing};
 use base::Checked;
 use base::Refusal;
 use matchmaker::ProposedMatch;
 use queue::Queue;
-use roster::Observed;
 use seating::Formed;
 use seating::TeamComposition;
 
@@ -407,61 +404,6 @@ fn matches(
     ))
 }
 
-// ---- refusals
-
-// Refusals 1, 2 and 3, of all but the entries.
-fn check_first(
-    waiting: usize,
-    sizes: TeamComposition,
-    ids: &[u64],
-    ratings: &[f64],
-    players: usize,
-    qualities: usize,
-) -> Checked
-    ensures { λ r. ⌜ checkedOf r ≡ firstCheck sizes (ofRatings (now (ids .entry)) (now (ratings .entry))) waiting players qualities ⌝ }
-{
-    if 64 < waiting {
-        return Checked::Refused(Refusal::OverLimit);
-    }
-    if sizes.is_over() {
-        return Checked::Refused(Refusal::OverLimit);
-    }
-    if let Checked::Refused(refusal) = roster::check_ratings(ids, ratings) {
-        return Checked::Refused(refusal);
-    }
-    if seating::are_short(players, qualities) {
-        return Checked::Refused(Refusal::ShortSheet);
-    }
-    Checked::Passed
-}
-
-// Refusals 1, 2, 3 and 4 of what a search is given.
-pub fn check(
-    queue: Queue,
-    sizes: TeamComposition,
-    ids: &[u64],
-    ratings: &[f64],
-    players: usize,
-    qualities: usize,
-) -> Checked
-    ensures { λ r. ⌜ checkedOf r ≡ greedyCheck sizes (ofRatings (now (ids .entry)) (now (ratings .entry))) (queueOf queue) players qualities ⌝ }
-{
-    if let Checked::Refused(refusal) = check_first(
-        queue.len,
-        sizes,
-        ids,
-        ratings,
-        players,
-        qualities,
-    ) {
-        return Checked::Refused(refusal);
-    }
-    if queue.has_joined_over() {
-        return Checked::Refused(Refusal::Clock);
-    }
-    Checked::Passed
-}
-
 // The search itself has nothing to set.
 pub struct GreedySearch {}
 
@@ -477,7 +419,7 @@ impl GreedySearch {
     ) -> Formed
         ensures { λ r. ⌜ leaving r (now (players .exit)) (now (qualities .exit)) ≡ greedyRule sizes (ofRatings (now (ids .entry)) (now (ratings .entry))) (queueOf queue) (record { players = now (players .entry); qualities = now (qualities .entry) }) ⌝ }
     {
-        if let Checked::Refused(refusal) = check_first(
+        if let Checked::Refused(refusal) = seating::searching::check_first(
             queue.len,
             sizes,
             ids,

@@ -3,98 +3,53 @@ use Prim.Native.Nat.{ℕ, _*_, _≤_}
 use mathlib.Core.Path.{_≡_, refl, sym, ap, _∙_}
 use mathlib.Core.Bool.{Bool, true, false, cond, _||_}
 use mathlib.Core.List.{List, [], _∷_, _++_, map, append-nil}
-use mathlib.Core.Option.{Option, none, some}
+use mathlib.Core.Option.{none, some}
 use native.Mathlib.Nat.{not-suc-le-zero}
 use native.Mathlib.Omega.{arith}
 use borrow.Author.Tests.{ltb-false}
 use lib.Dec.{ltb}
 use lib.Ieee.{Float}
-use lib.ListN.{length, drop, set, length-append}
+use lib.ListN.{length, take, drop, set, length-append, length-take}
 use Rattle.base.specs.declared.Checked.{Checked}
 use Rattle.base.specs.declared.Checked.the-variants.{Passed, Refused}
 use Rattle.base.specs.declared.Refusal.{Refusal}
 use Rattle.base.specs.Floats as Floats
-use Rattle.base.specs.Lists.{any, All}
+use Rattle.base.specs.Lists.{any}
 use Rattle.base.specs.Refusals.{Outcome, refused, gives, guarded, refusalNumber, checkedOf}
 use Rattle.base.proofs.Cases.{never}
-use Rattle.base.proofs.Checks.{neither, guard-refuses, guard-passes, passed-to}
+use Rattle.base.proofs.Checks.{neither}
 use Rattle.queue.specs.Time.{timeOver}
 use Rattle.queue.specs.Queue.{QueueState, holding}
-use Rattle.roster.specs.Roster.{Roster, rulesCheck}
+use Rattle.roster.specs.Roster.{Roster}
 use Rattle.matchmaker.specs.Quality.{MatchState, seated}
 use Rattle.objective.specs.declared.soft.SoftObjective.{SoftObjective}
 use Rattle.constraint.specs.declared.Constraints.{Constraints}
-use Rattle.constraint.specs.Refusing.{constraintsOver, broughtPairsCheck}
 use Rattle.seating.specs.declared.TeamComposition.{TeamComposition}
-use Rattle.seating.specs.Seating.{Sheets, sizesOver, seatsOf, areShort, seats, handedOut}
+use Rattle.seating.specs.Seating.{Sheets, areShort, seats, handedOut}
 use Rattle.seating.specs.Steps.{overlaid}
-use Rattle.seating.proofs.Laws.{sizes-in, overlaid-fits}
+use Rattle.seating.proofs.Laws.{overlaid-fits}
 use Rattle.candidate.specs.Exhaustive.{tooWide}
-use Rattle.choice.specs.Full.{Terms, Selection, terms, termsCheck, chosen, choiceCheck, choiceRule}
-use Rattle.choice.proofs.Checking.{over}
-use Rattle.choice.proofs.FullLaws.{chosen-best}
+use Rattle.choice.specs.Full.{Terms, Selection, terms, termsCheck, chosen, choiceRule}
 use Rattle.hall.specs.Hall.{hasTimeOver, entryOf}
-use Rattle.hall.specs.Rounds.{full, RoundCall, calling, listOf, selected, findings, matchesFrom}
-use Rattle.hall.specs.Steps.{fullCheck, HandedNumbers, FoundNumbers}
+use Rattle.hall.specs.Rounds.{full, RoundCall, calling, selected, findings}
+use Rattle.hall.specs.Steps.{sheetsAndClockCheck, HandedNumbers, FoundNumbers}
 use Rattle.hall.specs.declared.Booking.{Booking}
 use Rattle.hall.specs.declared.rounds.Handed.{Handed}
 use Rattle.hall.proofs.RoundLaws.{refusing, handed-refused, handed-given, entries-fit, entries-over}
 
--- ---- the check
+-- ---- the check of the sheets and the clock
 
-module _ (s : TeamComposition) (c : Constraints) (count : ℕ) (r : Roster) (clock players qualities : ℕ) (k : Checked) (g : checkedOf k ≡ termsCheck r c count s) where
-  -- what is checked behind the terms
-  abbrev timely : Outcome Unit
-  timely = cond (areShort players qualities) (refused 3) (cond (timeOver clock) (refused 4) (gives tt))
+-- a check that passes does not refuse
+passing : (u : Bool) (rest : Outcome Unit) → gives tt ≡ cond u (refused 3) rest → u ≡ false
+passing true rest e = never cc
+passing false rest e = refl
 
-  -- the terms
-  pub refuses-terms : {x : Refusal} → k ≡ Refused x → refused (refusalNumber x) ≡ fullCheck s c count r clock players qualities
-  refuses-terms e = guard-refuses timely k e g
-
-  module _ (fine : k ≡ Passed) where
-    -- what comes behind them
-    behind : {o : Outcome Unit} → o ≡ timely → o ≡ fullCheck s c count r clock players qualities
-    behind e = e ∙ guard-passes timely k fine g
-
-    -- short sheets
-    pub refuses-3 : areShort players qualities ≡ true → refused 3 ≡ fullCheck s c count r clock players qualities
-    refuses-3 e = behind (rw e)
-
-    -- a clock above 2^53
-    pub refuses-4 : areShort players qualities ≡ false → timeOver clock ≡ true → refused 4 ≡ fullCheck s c count r clock players qualities
-    refuses-4 e l = behind (rw (e, l))
-
-    -- neither
-    pub passes-all : areShort players qualities ≡ false → timeOver clock ≡ false → gives tt ≡ fullCheck s c count r clock players qualities
-    passes-all e l = behind (rw (e, l))
-
--- what the check tells by passing
-pub record Held (s : TeamComposition) (players qualities : ℕ) : Type 0 where
-  pub a : s .a ≤ 8
-  pub b : s .b ≤ 8
-  pub players-fit : 64 ≤ players
-  pub qualities-fit : 64 ≤ qualities
-
--- a check that passes refuses nothing
-passing : (t : Bool) (o p : Outcome Unit) (u l : Bool) → _≡_ {A = Outcome Unit} (gives tt) (guarded (cond t (refused 1) (guarded o p)) (cond u (refused 3) (cond l (refused 4) (gives tt)))) → (t ≡ false) × (u ≡ false)
-passing true o p u l e = never cc
-passing false (refused n) p u l e = never cc
-passing false (gives v) (refused n) u l e = never cc
-passing false (gives v) (gives w) true l e = never cc
-passing false (gives v) (gives w) false l e = (refl, refl)
-
--- the limits hold
-pub held : (s : TeamComposition) (c : Constraints) (count : ℕ) (r : Roster) (clock players qualities : ℕ) {k : Checked} → k ≡ Passed → checkedOf k ≡ fullCheck s c count r clock players qualities → Held s players qualities
-held s c count r clock players qualities e g =
-    let p = passing (over c count s) (rulesCheck r) (broughtPairsCheck c) (areShort players qualities) (timeOver clock) (sym (ap checkedOf e) ∙ g) in
-    let z = sizes-in s (neither (sizesOver s) (constraintsOver c || ltb 8 count) (p .0) .0) in
-    let y = neither (ltb players 64) (ltb qualities 64) (p .1) in
-    record {
-      a = z .0;
-      b = z .1;
-      players-fit = ltb-false players 64 (y .0);
-      qualities-fit = ltb-false qualities 64 (y .1);
-    }
+-- sheets that pass have the places of a match
+pub places-fit : (clock players qualities : ℕ) {k : Checked} → k ≡ Passed → checkedOf k ≡ sheetsAndClockCheck clock players qualities → (16 ≤ players) × (1 ≤ qualities)
+places-fit clock players qualities e g =
+    let p = passing (areShort players qualities) (cond (timeOver clock) (refused 4) (gives tt)) (sym (ap checkedOf e) ∙ g) in
+    let y = neither (ltb players 64) (ltb qualities 64) p in
+    (omega (arith, ltb-false players 64 (y .0)), omega (arith, ltb-false qualities 64 (y .1)))
 
 -- ---- the choice on the sheets
 
@@ -118,31 +73,40 @@ module _ (sheets : Sheets) {v : Outcome Selection} where
   choice-none {n} e = rw e (record { handed = refl; count = refl; tried = refl; fits = omega arith; seated = refl })
 
   -- a choice stands on the sheets
-  pub choice-given : (m : MatchState) {n each : ℕ} → v ≡ gives (record { best = some m; tried = n }) → All (λ x. length (seated x) ≡ each) (matchesFrom (selected v)) → each ≤ length (sheets .players) → 1 ≤ length (sheets .qualities) → {ps : List ℕ} {qs : List Float} → ps ≡ overlaid (seated m) (sheets .players) → qs ≡ set (sheets .qualities) 0 Floats.zero → HandedNumbers quality sheets (selected v) (record { count = 1; seats = each; tried = n; refusal = 0 }) ps qs
+  pub choice-given : (m : MatchState) {n : ℕ} → v ≡ gives (record { best = some m; tried = n }) → length (seated m) ≤ length (sheets .players) → 1 ≤ length (sheets .qualities) → {ps : List ℕ} {qs : List Float} → ps ≡ overlaid (seated m) (sheets .players) → qs ≡ set (sheets .qualities) 0 Floats.zero → {each : ℕ} → each ≡ length (seated m) → HandedNumbers quality sheets (selected v) (record { count = 1; seats = each; tried = n; refusal = 0 }) ps qs
   unfolding seats
-  choice-given m {n} {each} e sized room space {ps} {qs} p q =
-      let one : All (λ x. length (seated x) ≡ each) (m ∷ []) = rw e at sized in
-      let fits : length (seated m) ≤ length (sheets .players) = rw (one .0) room in
-      let a : ps ≡ seated m ++ drop (length (seated m)) (sheets .players) = p ∙ overlaid-fits (seated m) (sheets .players) fits in
+  choice-given m {n} e room space {ps} {qs} p q {each} held =
+      let a : ps ≡ seated m ++ drop (length (seated m)) (sheets .players) = p ∙ overlaid-fits (seated m) (sheets .players) room in
       let b : qs ≡ Floats.zero ∷ drop 1 (sheets .qualities) = q ∙ set-first (sheets .qualities) Floats.zero space in
       let h : record { answer = gives 1; sheets = record { players = ps; qualities = qs } } ≡ handedOut quality (gives (m ∷ [])) sheets = rw (append-nil (seated m), a, b) in
       let k : 1 * each ≡ each = omega arith in
-      rw k at (handed-given quality sheets (m ∷ []) each one h n (ap selected e))
+      rw k at (handed-given quality sheets (m ∷ []) each (sym held, tt) h n (ap selected e))
 
--- ---- the check and the choice's own are those of the round
+-- two teams of 8 at most seat 16 at most
+pub seated-most : (x y : List ℕ) (l m : ℕ) → length x ≡ 8 → length y ≡ 8 → length (take l x ++ take m y) ≤ 16
+seated-most x y l m e f = omega (arith, length-append (take l x) (take m y), length-take l x, length-take m y)
 
--- test by test
-chain : (w : Bool) (o : Outcome Unit) (sh lc le wide : Bool) (v : Outcome Selection) → w ≡ false →
+-- ---- the checks of the round
+
+-- refused for its sheets or its clock: the refusal is that of the terms, or else this
+stopped : (o : Outcome Unit) (sh lc le wide : Bool) (v : Outcome Selection) {n m : ℕ} → _≡_ {A = Outcome Unit} (refused n) (cond sh (refused 3) (cond lc (refused 4) (gives tt))) → _≡_ {A = Outcome Unit} (refused m) (guarded o (refused n)) →
+    guarded (guarded o (cond sh (refused 3) (cond (lc || le) (refused 4) (cond wide (refused 6) (gives tt))))) (selected v) ≡ refused m
+stopped (refused i) sh lc le wide v e g = cc
+stopped (gives u) true lc le wide v e g = cc
+stopped (gives u) false true le wide v e g = cc
+stopped (gives u) false false le wide v e g = never cc
+
+-- not refused for these: the choice's own checks are those of the round
+unstopped : (w : Bool) (o : Outcome Unit) (sh lc le wide : Bool) (v : Outcome Selection) → w ≡ false → _≡_ {A = Outcome Unit} (gives tt) (cond sh (refused 3) (cond lc (refused 4) (gives tt))) →
     guarded (guarded o (cond sh (refused 3) (cond (lc || le) (refused 4) (cond wide (refused 6) (gives tt))))) (selected v)
-    ≡ guarded (guarded o (cond sh (refused 3) (cond lc (refused 4) (gives tt))))
-    (selected (guarded (cond w (refused 1) (guarded o (cond le (refused 4) (cond wide (refused 6) (gives tt))))) v))
-chain true o sh lc le wide v e = never cc
-chain false (refused n) sh lc le wide v e = refl
-chain false (gives u) true lc le wide v e = refl
-chain false (gives u) false true le wide v e = refl
-chain false (gives u) false false true wide v e = refl
-chain false (gives u) false false false true v e = refl
-chain false (gives u) false false false false v e = refl
+    ≡ selected (guarded (cond w (refused 1) (guarded o (cond le (refused 4) (cond wide (refused 6) (gives tt))))) v)
+unstopped true o sh lc le wide v e p = never cc
+unstopped false o true lc le wide v e p = never cc
+unstopped false o false true le wide v e p = never cc
+unstopped false (refused n) false false le wide v e p = refl
+unstopped false (gives u) false false true wide v e p = refl
+unstopped false (gives u) false false false true v e p = refl
+unstopped false (gives u) false false false false v e p = refl
 
 module _ (s : TeamComposition) (c : Constraints) (objectives : List SoftObjective) (count : ℕ) (r : Roster) (clock : ℕ) (sheets : Sheets) (ws : List Booking) (few : length ws ≤ 64) where
   -- the terms and the call
@@ -155,37 +119,26 @@ module _ (s : TeamComposition) (c : Constraints) (objectives : List SoftObjectiv
   abbrev queue : QueueState
   queue = holding (map entryOf ws)
 
-  -- what is found stands behind the check
-  full-found : findings call ws ≡ guarded (fullCheck s c count r clock (length (sheets .players)) (length (sheets .qualities))) (selected (choiceRule given s queue))
-  unfolding findings
-  full-found =
-      rw (entries-over ws)
-      (chain (ltb 64 (length (map entryOf ws))) (termsCheck r c count s)
-      (areShort (length (sheets .players)) (length (sheets .qualities))) (timeOver clock) (any hasTimeOver ws) (tooWide (map entryOf ws)) (chosen given s (map entryOf ws)) (entries-fit ws few))
+  module _ (k : Checked) (checked : checkedOf k ≡ sheetsAndClockCheck clock (length (sheets .players)) (length (sheets .qualities))) where
+    -- the check refuses: the answer is the terms' refusal, or else the check's
+    pub full-refused : (x : Refusal) → k ≡ Refused x → (y : Refusal) → checkedOf (Refused y) ≡ guarded (termsCheck r c count s) (checkedOf (Refused x)) → {h : Handed} → h ≡ refusing y → FoundNumbers call ws h (sheets .players) (sheets .qualities)
+    unfolding findings
+    full-refused x e y f g =
+        let z =
+        stopped (termsCheck r c count s) (areShort (length (sheets .players)) (length (sheets .qualities))) (timeOver clock) (any hasTimeOver ws) (tooWide (map entryOf ws)) (chosen given s (map entryOf ws))
+        (sym (ap checkedOf e) ∙ checked) f in
+        handed-refused quality sheets y z g
 
-  module _ (k : Checked) (checked : checkedOf k ≡ fullCheck s c count r clock (length (sheets .players)) (length (sheets .qualities))) where
-    -- the check refuses
-    pub full-refused : (x : Refusal) → k ≡ Refused x → {h : Handed} → h ≡ refusing x → FoundNumbers call ws h (sheets .players) (sheets .qualities)
-    full-refused x e g = handed-refused quality sheets x (full-found ∙ sym (guard-refuses _ k e checked)) g
+    -- the check passes: what is found is the choice
+    full-found : k ≡ Passed → findings call ws ≡ selected (choiceRule given s queue)
+    unfolding findings
+    full-found e =
+        rw (entries-over ws)
+        (unstopped (ltb 64 (length (map entryOf ws))) (termsCheck r c count s)
+        (areShort (length (sheets .players)) (length (sheets .qualities))) (timeOver clock) (any hasTimeOver ws) (tooWide (map entryOf ws)) (chosen given s (map entryOf ws)) (entries-fit ws few) (sym (ap checkedOf e) ∙ checked))
 
     -- the check passes: the choice decides
     pub full-given : k ≡ Passed → {q : QueueState} → q ≡ queue → {v : Outcome Selection} → v ≡ choiceRule given s q → {h : Handed} {ps : List ℕ} {qs : List Float} → HandedNumbers quality sheets (selected v) h ps qs → FoundNumbers call ws h ps qs
     full-given e {q} w {v} g {h} {ps} {qs} z =
-        let k : selected v ≡ findings call ws = ap selected (g ∙ ap (choiceRule given s) w) ∙ guard-passes _ k e checked ∙ sym full-found in
+        let k : selected v ≡ findings call ws = ap selected (g ∙ ap (choiceRule given s) w) ∙ sym (full-found e) in
         rw k at z
-
--- ---- the choice seats A + B
-
-module _ (t : Terms) (s : TeamComposition) (q : QueueState) where
-  -- the best choice, if there is one
-  best-seated : (b : Option MatchState) (n : ℕ) → choiceRule t s q ≡ gives (record { best = b; tried = n }) → All (λ m. length (seated m) ≡ seatsOf s) (listOf b)
-  best-seated none n e = tt
-  best-seated (some m) n e =
-      let k = passed-to (choiceCheck (t .roster) (t .constraints) (t .count) s q) (chosen t s (q .entries)) e .1 in
-      let f = chosen-best t s (q .entries) (record { best = some m; tried = n }) k m refl .filled in
-      (length-append (m .a .players) (m .b .players) ∙ rw (f .first, f .second), tt)
-
-  -- whatever the choice comes to
-  pub choice-seated : (v : Outcome Selection) → v ≡ choiceRule t s q → All (λ m. length (seated m) ≡ seatsOf s) (matchesFrom (selected v))
-  choice-seated (refused n) e = tt
-  choice-seated (gives x) e = best-seated (x .best) (x .tried) (sym e)

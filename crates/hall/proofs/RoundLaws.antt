@@ -28,8 +28,9 @@ use Rattle.seating.specs.declared.TeamComposition.{TeamComposition}
 use Rattle.seating.specs.declared.Formed.{Formed}
 use Rattle.seating.specs.declared.Formed.the-variants as Formed
 use Rattle.seating.specs.Seating.{Sheets, HandedOut, sizesOver, seatsOf, areShort, seats, handedOut, leaving}
+use Rattle.seating.specs.Searching.{searchCheck}
 use Rattle.seating.proofs.Laws.{length-seats}
-use Rattle.greedy.specs.Greedy.{greedyMatches, greedyCheck, greedyRule}
+use Rattle.greedy.specs.Greedy.{greedyMatches, greedyRule}
 use Rattle.beam.specs.Beam.{beaming, beamMatches, beamCheck, beamRule}
 use Rattle.base.proofs.All.{all-so}
 use Rattle.greedy.proofs.Seats.{greedy-sized}
@@ -173,7 +174,7 @@ module _ (ws : List Booking) (few : length ws ≤ 64) (q : QueueState) (whole : 
   quality m = qualityOf r (m .a .players) (m .b .players)
 
   abbrev check : Outcome Unit
-  check = greedyCheck s r q (length (sheets .players)) (length (sheets .qualities))
+  check = searchCheck s r q (length (sheets .players)) (length (sheets .qualities))
 
   abbrev searched : Outcome (List MatchState)
   searched = guarded check (gives (greedyMatches s r (q .entries)))

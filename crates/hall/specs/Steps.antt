@@ -6,14 +6,10 @@ use mathlib.Core.List.{List}
 use mathlib.Core.Option.{Option, none, some}
 use lib.Ieee.{Float}
 use lib.ListN.{length, take}
-use Rattle.base.specs.Refusals.{Outcome, refused, gives, guarded}
+use Rattle.base.specs.Refusals.{Outcome, refused, gives}
 use Rattle.base.specs.Numbers.{outcomeIn}
 use Rattle.queue.specs.Time.{timeOver}
-use Rattle.roster.specs.Roster.{Roster}
 use Rattle.matchmaker.specs.Quality.{MatchState}
-use Rattle.constraint.specs.declared.Constraints.{Constraints}
-use Rattle.choice.specs.Full.{termsCheck}
-use Rattle.seating.specs.declared.TeamComposition.{TeamComposition}
 use Rattle.seating.specs.Seating.{Sheets, areShort, seats, handedOut}
 use Rattle.hall.specs.Hall.{Content, same, contentIn, answerIn}
 use Rattle.hall.specs.Rounds.{RoundCall, Found, findings, qualityBy, matchesIn, matchesFrom, triedIn}
@@ -38,10 +34,9 @@ noteWith c n = record { player = c .player; kind = c .kind; answer = n }
 
 -- ---- rounds
 
--- refusals 1, 2 and 3 of a full round, and 4 of its clock; of the sheets only the lengths count
-abbrev pub fullCheck : TeamComposition → Constraints → ℕ → Roster → ℕ → ℕ → ℕ → Outcome Unit
-fullCheck s c count r clock players qualities =
-    guarded (termsCheck r c count s) (cond (areShort players qualities) (refused 3) (cond (timeOver clock) (refused 4) (gives tt)))
+-- refusal 3 of a full round, and 4 of its clock; of the sheets only the lengths count
+abbrev pub sheetsAndClockCheck : ℕ → ℕ → ℕ → Outcome Unit
+sheetsAndClockCheck clock players qualities = cond (areShort players qualities) (refused 3) (cond (timeOver clock) (refused 4) (gives tt))
 
 -- the numbers of a round that found this, beside its sheets as it left them
 pub record HandedNumbers (quality : MatchState → Float) (sheets : Sheets) (o : Outcome Found) (r : Handed) (players : List ℕ) (qualities : List Float) : Type 0 where

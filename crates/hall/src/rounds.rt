@@ -3,13 +3,12 @@ ghost use mathlib.Core.Path.{_≡_};
 ghost use Prim.Native.Nat.{_≤_};
 ghost use lib.ListN.{length, take};
 ghost use Rattle.base.specs.Floats as Floats;
-ghost use Rattle.base.specs.Lists.{All};
-ghost use Rattle.base.specs.Refusals.{refusalNumber, checkedOf};
-ghost use Rattle.matchmaker.specs.Quality.{seated};
+ghost use Rattle.base.specs.Refusals.{guarded, refusalNumber, checkedOf};
+ghost use Rattle.base.specs.declared.Checked.the-variants.{Refused};
 ghost use Rattle.roster.specs.Roster.{ofRatings, ofDeviations, ofRules};
-ghost use Rattle.choice.specs.Full.{terms, choiceOf};
-ghost use Rattle.hall.specs.Rounds.{greedy, beam, full, calling, selected, matchesFrom};
-ghost use Rattle.hall.specs.Steps.{fullCheck, HandedNumbers, FoundNumbers};
+ghost use Rattle.choice.specs.Full.{terms, termsCheck, choiceOf};
+ghost use Rattle.hall.specs.Rounds.{greedy, beam, full, calling, selected};
+ghost use Rattle.hall.specs.Steps.{sheetsAndClockCheck, HandedNumbers, FoundNumbers};
 use crate::Booking;
 use crate::waiting;
 use base::Checked;
@@ -60,7 +59,7 @@ pub fn greedy_handed(
     ensures { λ r. ⌜ FoundNumbers (calling (greedy sizes (ofRatings (now (ids .entry)) (now (ratings .entry)))) clock (now (players .entry)) (now (qualities .entry))) (take n bookings) r (now (players .exit)) (now (qualities .exit)) ⌝ }
 {
     let queue = waiting::eligible(bookings, n);
-    if let Checked::Refused(refusal) = greedy::check(
+    if let Checked::Refused(refusal) = seating::searching::check(
         queue,
         sizes,
         ids,
@@ -135,21 +134,32 @@ pub fn beam_handed(
 
 // ---- the full round
 
-// Refusals 1, 2 and 3 of a full round, and 4 of its clock.
-fn check_full(
+// Refusal 3 of a full round, and 4 of its clock.
+fn check_sheets_and_clock(clock: u64, players: usize, qualities: usize) -> Checked
+    ensures { λ r. ⌜ checkedOf r ≡ sheetsAndClockCheck clock players qualities ⌝ }
+{
+    if seating::are_short(players, qualities) {
+        return Checked::Refused(Refusal::ShortSheet);
+    }
+    if queue::time::is_over(clock) {
+        return Checked::Refused(Refusal::Clock);
+    }
+    Checked::Passed
+}
+
+// The refusal of a full round that is refused anyway: that of its terms, or else the one behind it.
+fn first_refusal(
+    behind: Refusal,
     sizes: TeamComposition,
     constraints: Constraints,
     count: usize,
-    clock: u64,
     ids: &[u64],
     ratings: &[f64],
     parties: &[u64],
     roles: &[u32],
     regions: &[u8],
-    players: usize,
-    qualities: usize,
-) -> Checked
-    ensures { λ r. ⌜ checkedOf r ≡ fullCheck sizes constraints count (ofRules (now (ids .entry)) (now (ratings .entry)) (now (parties .entry)) (now (roles .entry)) (now (regions .entry))) clock players qualities ⌝ }
+) -> Refusal
+    ensures { λ r. ⌜ checkedOf (Refused r) ≡ guarded (termsCheck (ofRules (now (ids .entry)) (now (ratings .entry)) (now (parties .entry)) (now (roles .entry)) (now (regions .entry))) constraints count sizes) (checkedOf (Refused behind)) ⌝ }
 {
     if let Checked::Refused(refusal) = choice::check_terms(
         sizes,
@@ -161,21 +171,14 @@ fn check_full(
         roles,
         regions,
     ) {
-        return Checked::Refused(refusal);
+        return refusal;
     }
-    if seating::are_short(players, qualities) {
-        return Checked::Refused(Refusal::ShortSheet);
-    }
-    if queue::time::is_over(clock) {
-        return Checked::Refused(Refusal::Clock);
-    }
-    Checked::Passed
+    behind
 }
 
 // The choice on the sheets, if there is one.
-fn choice_handed(choice: Choice, each: usize, players: &mut [u64], qualities: &mut [f64]) -> Handed
-    requires { ⌜ (each ≤ length (now players)) × (1 ≤ length (now qualities)) ⌝ }
-    requires { ⌜ All (λ m. length (seated m) ≡ each) (matchesFrom (selected (choiceOf choice))) ⌝ }
+fn choice_handed(choice: Choice, players: &mut [u64], qualities: &mut [f64]) -> Handed
+    requires { ⌜ (16 ≤ length (now players)) × (1 ≤ length (now qualities)) ⌝ }
     ensures { λ r. ⌜ HandedNumbers (λ m. Floats.zero) (record { players = now (players .entry); qualities = now (qualities .entry) }) (selected (choiceOf choice)) r (now (players .exit)) (now (qualities .exit)) ⌝ }
 {
     let verdict = choice.verdict;
@@ -190,11 +193,12 @@ fn choice_handed(choice: Choice, each: usize, players: &mut [u64], qualities: &m
             refusal: 0,
         },
         Verdict::Chosen => {
+            let places = teams.seats();
             seating::write_match(teams, players);
             qualities[0] = 0.0;
             Handed {
                 count: 1,
-                seats: each,
+                seats: places,
                 tried: tried,
                 refusal: 0,
             }
@@ -221,21 +225,20 @@ pub fn full_handed(
 ) -> Handed
     ensures { λ r. ⌜ FoundNumbers (calling (full sizes (terms (ofRules (now (ids .entry)) (now (ratings .entry)) (now (parties .entry)) (now (roles .entry)) (now (regions .entry))) constraints objectives count)) clock (now (players .entry)) (now (qualities .entry))) (take n bookings) r (now (players .exit)) (now (qualities .exit)) ⌝ }
 {
-    let checked = check_full(
-        sizes,
-        constraints,
-        count,
-        clock,
-        ids,
-        ratings,
-        parties,
-        roles,
-        regions,
-        players.len(),
-        qualities.len(),
-    );
-    if let Checked::Refused(refusal) = checked {
-        return refuses(refusal);
+    // The choice has refusals 1 and 2 by itself. Only a round that is refused anyway looks for them before.
+    let checked = check_sheets_and_clock(clock, players.len(), qualities.len());
+    if let Checked::Refused(behind) = checked {
+        return refuses(first_refusal(
+            behind,
+            sizes,
+            constraints,
+            count,
+            ids,
+            ratings,
+            parties,
+            roles,
+            regions,
+        ));
     }
     let choice = choice::best_choice(
         waiting::eligible(bookings, n),
@@ -249,6 +252,5 @@ pub fn full_handed(
         roles,
         regions,
     );
-    let each = sizes.a + sizes.b;
-    choice_handed(choice, each, players, qualities)
+    choice_handed(choice, players, qualities)
 }

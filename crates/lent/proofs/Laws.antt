@@ -24,7 +24,7 @@ read-refused : (p now n : ℕ) (es : List QueueEntry) → foldl (read p now) (re
 read-refused p now n [] = refl
 read-refused p now n (e ∷ es) = read-refused p now n es
 
--- behind a known wait only late entries count
+-- behind a known wait only entries whose time is over count
 read-known : (p now t : ℕ) (es : List QueueEntry) → foldl (read p now) (gives (some t)) es ≡ cond (any joinedOver es) (refused 4) (gives (some t))
 unfolding seek
 read-known p now t [] = refl

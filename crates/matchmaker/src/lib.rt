@@ -5,7 +5,6 @@ ghost use Prim.Native.Nat.{_+_, _≤_};
 ghost use lib.ListN.{length, take, drop, replicate};
 ghost use lib.Ieee as Ieee;
 ghost use lib.Ieee.{binary64};
-ghost use Rattle.base.specs.Lists.{member};
 ghost use Rattle.base.specs.Sheets.{laid};
 ghost use Rattle.roster.specs.Roster.{ofRatings, observe, observedOf};
 ghost use Rattle.roster.specs.Rows.{valueAt};
@@ -137,22 +136,6 @@ impl Team {
         out
     }
 
-    // Is the player in the team?
-    pub fn has(self, player: u64) -> bool
-        ensures { λ r. ⌜ r ≡ member player (teamOf self .players) ⌝ }
-    {
-        let players = self.players;
-        let n = self.held();
-        let mut i: usize = 0;
-        while i < n {
-            if players[i] == player {
-                return true;
-            }
-            i += 1;
-        }
-        false
-    }
-
     // The team's average rating: a player without a row counts in the length alone.
     pub fn average_rating(self, ids: &[u64], ratings: &[f64]) -> f64
         ensures { λ r. ⌜ r ≡ averageOf (ofRatings (now (ids .entry)) (now (ratings .entry))) (teamOf self .players) ⌝ }
@@ -172,18 +155,6 @@ impl ProposedMatch {
         let a = self.a;
         let b = self.b;
         a.held() + b.held()
-    }
-
-    // Is the player seated?
-    pub fn seats_player(self, player: u64) -> bool
-        ensures { λ r. ⌜ r ≡ member player (seated (matchOf self)) ⌝ }
-    {
-        let a = self.a;
-        let b = self.b;
-        if a.has(player) {
-            return true;
-        }
-        b.has(player)
     }
 
     // Is a team over 8?

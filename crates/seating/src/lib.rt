@@ -14,6 +14,9 @@ use matchmaker::Team;
 // Whose turn it is to take a player.
 pub mod turns;
 
+// The check of what a search is given.
+pub mod searching;
+
 // The sizes of the two teams.
 #[repr(C)]
 pub struct TeamComposition {

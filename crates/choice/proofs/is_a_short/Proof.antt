@@ -3,7 +3,6 @@ use mathlib.Core.Path.{ap}
 use Prim.Native.Nat.{ℕ}
 use lib.Dec.{ltb}
 use borrow.Author.Needs.{needs}
-use borrow.Author.Needs.{needs}
 use Rattle.choice.proofs.is_a_short.Statement.{statement}
 use Rattle.choice.proofs.is_a_short.Tie as tie
 

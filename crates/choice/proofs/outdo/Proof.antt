@@ -2,7 +2,7 @@
 use mathlib.Core.Path.{refl}
 use borrow.Author.Needs.{needs}
 use Rattle.matchmaker.specs.Quality.{matchOf}
-use Rattle.choice.specs.Steps.{Scored}
+use Rattle.seating.specs.Steps.{Scored}
 use Rattle.choice.proofs.Stepping.{stays, outdone, one-passed}
 use Rattle.choice.proofs.outdo.Statement.{statement}
 use Rattle.choice.proofs.outdo.Tie as tie

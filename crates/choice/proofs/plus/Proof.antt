@@ -1,6 +1,5 @@
 -- The rating is added where there is a row.
 use borrow.Author.Needs.{needs}
-use borrow.Author.Needs.{needs}
 use Rattle.choice.proofs.plus.Statement.{statement}
 use Rattle.choice.proofs.plus.Tie as tie
 

@@ -2,7 +2,6 @@
 use mathlib.Core.Path.{_∙_}
 use borrow.Author.Needs.{needs}
 use Rattle.choice.specs.Sums.{scoreBy}
-use borrow.Author.Needs.{needs}
 use Rattle.choice.proofs.score_of.Statement.{statement}
 use Rattle.choice.proofs.score_of.Tie as tie
 

@@ -1,7 +1,6 @@
 -- The player joins A, or B.
 use borrow.Author.Needs.{needs}
 use Rattle.choice.specs.Sums.{sumsWith}
-use borrow.Author.Needs.{needs}
 use Rattle.choice.proofs.sums_with.Statement.{statement}
 use Rattle.choice.proofs.sums_with.Tie as tie
 

@@ -13,18 +13,20 @@ use Rattle.base.specs.Refusals.{Outcome, gives}
 use Rattle.base.proofs.Arrays.{unmapped}
 use Rattle.base.proofs.Sheets.{written-reads}
 use Rattle.queue.specs.declared.QueueEntry.{QueueEntry}
+use Rattle.queue.specs.Time.{timeOver}
 use Rattle.queue.specs.Queue.{queueOf, joinedOver}
+use Rattle.queue.proofs.Laws.{over-column}
 use Rattle.roster.specs.Roster.{ofRatings}
 use Rattle.matchmaker.specs.Quality.{MatchState, qualityOf}
 use Rattle.seating.specs.Seating.{Sheets, seats, handedOut}
 use Rattle.seating.proofs.Handing.{handed-out}
+use Rattle.seating.proofs.Checked.{time-over, in-time}
 use Rattle.greedy.specs.Greedy.{rosterRating, greedyMatches}
 use Rattle.greedy.specs.LongerWait.{byJoining}
 use Rattle.greedy.proofs.Plain.{greedy-plain}
 use Rattle.greedy.proofs.Joining.{as-ordered}
 use Rattle.greedy.proofs.Papers.{out-alike}
 use Rattle.greedy.proofs.Rows.{length-joining, places-fit, stands-fit, column-joining, turn-at}
-use Rattle.greedy.proofs.Checked.{over-column, late, in-time}
 use Rattle.greedy.proofs.Seats.{greedy-room, greedy-count}
 use borrow.Author.Needs.{needs}
 use Rattle.greedy.proofs.matches.Statement.{statement}
@@ -50,8 +52,8 @@ returns c =
     let quality : MatchState → Float = λ m. qualityOf r (m .a .players) (m .b .players) in
     let sheets : Sheets = record { players = a .seats .now; qualities = a .qualities .now } in
     let ms = greedyMatches (a .sizes) r queue in
-    let over : any joinedOver queue ≡ true = sym (over-column queue _ (c .before .before .before .read .ensures .1 .1 .1) (c .before .any-over .ensures)) ∙ c .if1 .taken in
-    ap (λ (o : Outcome (List MatchState)). handedOut quality o sheets) (late (gives ms) over)
+    let over : any joinedOver queue ≡ true = sym (c .before .any-over .ensures ∙ ap (any timeOver) (c .before .before .before .read .ensures .1 .1 .1) ∙ over-column queue) ∙ c .if1 .taken in
+    ap (λ (o : Outcome (List MatchState)). handedOut quality o sheets) (time-over (gives ms) over)
 
 by-time-requires : tie.Need-by-time-requires
 by-time-requires c κs = search needs
@@ -161,7 +163,7 @@ returns-2 c =
     let plain = greedy-plain (a .sizes) r queue (byJoining queue) (as-ordered queue) (take n players) (order .result .stands) _ _ n
     all (all ∙ sym (length-joining queue)) fits (twice ∙ named) rated (rostered ∙ ap (map (rosterRating r)) (sym twice)) (turn-at queue n _ (order .result .places) (order .result .stands) all (read .1 .1 .1) room space (order .ensures .0) (order .ensures .1 .0) (order .ensures .1 .1)) in
     let out = out-alike plain (c .before .before .before .before .match-all .ensures) in
-    let over : any joinedOver queue ≡ false = sym (over-column queue _ (read .1 .1 .1) (c .before .before .before .before .before .before .before .before .before .before .before .before .before .before .before .before .before .before .before .before .before .before .before .before .before .before .before .before .any-over .ensures)) ∙ c .before .before .before .before .before .before .before .before .before .before .before .before .before .before .before .before .before .before .before .before .before .before .before .before .before .before .before .if1 .left in
+    let over : any joinedOver queue ≡ false = sym (c .before .before .before .before .before .before .before .before .before .before .before .before .before .before .before .before .before .before .before .before .before .before .before .before .before .before .before .before .any-over .ensures ∙ ap (any timeOver) (read .1 .1 .1) ∙ over-column queue) ∙ c .before .before .before .before .before .before .before .before .before .before .before .before .before .before .before .before .before .before .before .before .before .before .before .before .before .before .before .if1 .left in
     let wide : length (seats ms) ≤ length (a .seats .now) = omega (arith, greedy-room (a .sizes) r queue, all, fits, s .pre .1 .0) in
     let long : length ms ≤ length (a .qualities .now) = omega (arith, greedy-count (a .sizes) r queue, all, fits, s .pre .1 .1) in
     handed-out quality sheets ms (out .count) wide long (out .seated) refl (out .rated) ∙ ap (λ (o : Outcome (List MatchState)). handedOut quality o sheets) (in-time (gives ms) over)

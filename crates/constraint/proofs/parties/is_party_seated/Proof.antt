@@ -4,7 +4,6 @@ use mathlib.Core.Path.{_≡_, refl, sym, _∙_}
 use native.Mathlib.Omega.{arith}
 use borrow.Author.Tests.{not-true, not-false}
 use lib.ListN.{length, drop}
-use Rattle.matchmaker.specs.Quality.{matchOf, seated}
 use Rattle.constraint.specs.Constraints.{partySeated}
 use Rattle.constraint.proofs.Meets.{seated-end, seated-short, seated-not, seated-on}
 use borrow.Author.Needs.{needs}
@@ -12,22 +11,19 @@ use Rattle.constraint.proofs.parties.is_party_seated.Statement.{stateme
 use Rattle.constraint.proofs.parties.is_party_seated.Tie as tie
 
 abbrev Inv-loop : tie.InvT-loop
-Inv-loop proposed ids parties party i₀ i =
-    let players = seated (matchOf proposed) in
-    (i ≤ length ids) × (partySeated ids parties players party ≡ partySeated (drop i ids) (drop i parties) players party)
+Inv-loop players ids parties party i₀ i = (i ≤ length ids) × (partySeated ids parties players party ≡ partySeated (drop i ids) (drop i parties) players party)
 
 abbrev μ-loop : tie.MeasureT-loop
-μ-loop proposed ids parties party i₀ i = length ids - i
+μ-loop players ids parties party i₀ i = length ids - i
 
 loop-holds : tie.Need-loop-holds Inv-loop μ-loop
 loop-holds c = (omega arith, refl)
 
 returns : tie.Need-returns Inv-loop μ-loop
 returns c =
-    let a = c .before .before .before .before .before .args in
-    let s = seated (matchOf (a .proposed)) in
+    let a = c .before .before .before .before .before .before .args in
     let l = c .before .before .loop in
-    seated-short s (a .party) (a .ids .now) (a .parties .now) (l .i) (l .inv .1) (omega arith)
+    seated-short (a .players .now) (a .party) (a .ids .now) (a .parties .now) (l .i) (l .inv .1) (omega arith)
 
 mul-row-passes : tie.Need-mul-row-passes Inv-loop μ-loop
 mul-row-passes c = search needs
@@ -46,10 +42,9 @@ row-passes-requires c κs = search needs
 
 returns-2 : tie.Need-returns-2 Inv-loop μ-loop
 returns-2 c =
-    let a = c .before .before .before .before .before .before .before .before .before .args in
-    let s = seated (matchOf (a .proposed)) in
+    let a = c .before .before .before .before .before .before .before .before .before .before .args in
     let l = c .before .before .before .before .before .before .loop in
-    seated-not s (a .party) (a .ids .now) (a .parties .now) (l .i) (l .inv .1) (omega arith) (omega arith)
+    seated-not (a .players .now) (a .party) (a .ids .now) (a .parties .now) (l .i) (l .inv .1) (omega arith) (omega arith)
     (sym (c .before .row-passes .ensures) ∙ not-true _ (c .if2 .taken))
 
 add-i : tie.Need-add-i Inv-loop μ-loop
@@ -60,20 +55,18 @@ loop-less c = search needs
 
 loop-again : tie.Need-loop-again Inv-loop μ-loop
 loop-again c =
-    let a = c .before .before .before .before .before .before .before .before .before .args in
-    let s = seated (matchOf (a .proposed)) in
+    let a = c .before .before .before .before .before .before .before .before .before .before .args in
     let l = c .before .before .before .before .before .before .loop in (
       omega arith,
-      seated-on s (a .party) (a .ids .now) (a .parties .now) (l .i) (l .inv .1) (omega arith) (omega arith)
+      seated-on (a .players .now) (a .party) (a .ids .now) (a .parties .now) (l .i) (l .inv .1) (omega arith) (omega arith)
           (sym (c .before .row-passes .ensures) ∙ not-false _ (c .if2 .left)),
     )
 
 returns-3 : tie.Need-returns-3 Inv-loop μ-loop
 returns-3 c =
-    let a = c .before .before .before .before .args in
-    let s = seated (matchOf (a .proposed)) in
+    let a = c .before .before .before .before .before .args in
     let l = c .before .loop in
-    seated-end s (a .party) (a .ids .now) (a .parties .now) (l .i) (l .inv .1) (omega arith)
+    seated-end (a .players .now) (a .party) (a .ids .now) (a .parties .now) (l .i) (l .inv .1) (omega arith)
 
 pub is-party-seated-spec : {M : Type 1} → statement M
 is-party-seated-spec =

@@ -1,4 +1,4 @@
--- `parties::row_passes` meets its contract: a row of another party passes, and else the player must be seated.
+-- `parties::row_passes` meets its contract: a row of another party passes, and else the player must be among them.
 use mathlib.Core.Path.{sym, _∙_}
 use mathlib.Core.Bool.{Bool·not-not}
 use borrow.Author.Tests.{eq-eqb, ne-eqb}
@@ -9,11 +9,11 @@ use Rattle.constraint.proofs.parties.row_passes.Tie as tie
 returns : tie.Need-returns
 returns c = rw (ne-eqb _ _ (c .if1 .taken))
 
-seats-player-requires : tie.Need-seats-player-requires
-seats-player-requires c κs = search needs
+is-among-requires : tie.Need-is-among-requires
+is-among-requires c κs = search needs
 
 returns-2 : tie.Need-returns-2
-returns-2 c = rw (eq-eqb _ _ (c .before .if1 .left)) (c .seats-player .ensures ∙ sym (Bool·not-not _))
+returns-2 c = rw (eq-eqb _ _ (c .before .if1 .left)) (c .is-among .ensures ∙ sym (Bool·not-not _))
 
 pub row-passes-spec : {M : Type 1} → statement M
-row-passes-spec = tie.close (tie.spec returns seats-player-requires returns-2)
+row-passes-spec = tie.close (tie.spec returns is-among-requires returns-2)

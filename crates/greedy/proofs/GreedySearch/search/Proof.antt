@@ -11,8 +11,8 @@ use Rattle.roster.specs.Roster.{ofRatings}
 use Rattle.matchmaker.specs.Quality.{MatchState, qualityOf}
 use Rattle.seating.specs.Seating.{Sheets, handedOut}
 use Rattle.seating.proofs.Handing.{handed-refused, handed-on}
+use Rattle.seating.proofs.Checked.{passed-first, behind-first}
 use Rattle.greedy.specs.Greedy.{greedyMatches}
-use Rattle.greedy.proofs.Checked.{passed-first, behind-first}
 use borrow.Author.Needs.{needs}
 use Rattle.greedy.proofs.GreedySearch.search.Statement.{statement}
 use Rattle.greedy.proofs.GreedySearch.search.Tie as tie

@@ -1,12 +1,15 @@
 -- A refusal, no match, or the match at the front of the sheets.
 use borrow.Author.Needs.{needs}
-use mathlib.Core.Path.{refl, ap}
+use mathlib.Core.Path.{_≡_, refl, ap}
+use native.Mathlib.Omega.{arith}
+use lib.ListN.{length}
 use Rattle.base.specs.Refusals.{Outcome}
+use Rattle.base.proofs.Arrays.{unmapped}
 use Rattle.matchmaker.specs.Quality.{matchOf}
 use Rattle.seating.specs.Seating.{Sheets}
 use Rattle.choice.specs.Full.{Selection, choiceBy}
 use Rattle.choice.specs.declared.Verdict.{Verdict}
-use Rattle.hall.proofs.ChoiceRounds.{choice-refused, choice-none, choice-given}
+use Rattle.hall.proofs.ChoiceRounds.{choice-refused, choice-none, choice-given, seated-most}
 use Rattle.hall.proofs.rounds.choice_handed.Statement.{statement}
 use Rattle.hall.proofs.rounds.choice_handed.Tie as tie
 
@@ -21,6 +24,9 @@ enum-told c = search needs
 
 enum-told-2 : tie.Need-enum-told-2
 enum-told-2 c = search needs
+
+seats-requires : tie.Need-seats-requires
+seats-requires c κs = search needs
 
 write-match-requires : tie.Need-write-match-requires
 write-match-requires c κs = search needs
@@ -52,11 +58,16 @@ same-length-2 c = search needs
 
 returns-3 : tie.Need-returns-3
 returns-3 c =
-    let a = c .before .before .before .before .before .before .before .before .before .args in
+    let a = c .before .before .before .before .before .before .before .before .before .before .args in
     let sheets : Sheets = record { players = a .players .now; qualities = a .qualities .now } in
-    let m = matchOf (a .choice .teams) in
+    let t = a .choice .teams in
+    let m = matchOf t in
     let by : Verdict → Outcome Selection = λ v. choiceBy v m (a .choice .tried) in
-    choice-given sheets m (ap by (c .before .before .before .before .enum-told2 .given .1)) (c .before .before .before .before .before .before .before .before .before .pre .1) (c .before .before .before .before .before .before .before .before .before .pre .0 .0) (c .before .before .before .before .before .before .before .before .before .pre .0 .1) (c .before .before .write-match .ensures) refl
+    let u : length (t .a .players) ≡ 8 = search (unmapped, needs) in
+    let v : length (t .b .players) ≡ 8 = search (unmapped, needs) in
+    let most = seated-most (t .a .players) (t .b .players) (t .a .len) (t .b .len) u v in
+    let room = c .before .before .before .before .before .before .before .before .before .before .pre in
+    choice-given sheets m (ap by (c .before .before .before .before .before .enum-told2 .given .1)) (omega (arith, most, room .0)) (room .1) (c .before .before .write-match .ensures) refl (c .before .before .before .before .seats .ensures)
 
 pub choice-handed-spec : {M : Type 1} → statement M
 choice-handed-spec =
@@ -66,6 +77,7 @@ choice-handed-spec =
     refuses-requires
     enum-told
     enum-told-2
+    seats-requires
     write-match-requires
     slice-write-qualities
     returns

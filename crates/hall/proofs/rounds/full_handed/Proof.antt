@@ -1,15 +1,12 @@
--- The check's refusal, or the best choice on the sheets.
+-- A refusal for the sheets or the clock, or the best choice on the sheets.
 use borrow.Author.Needs.{needs}
-use native.Mathlib.Omega.{arith}
 use mathlib.Core.Path.{_≡_}
 use lib.ListN.{length, take}
 use Rattle.base.proofs.Arrays.{unmapped}
-use Rattle.queue.specs.Queue.{queueOf}
 use Rattle.roster.specs.Roster.{ofRules}
 use Rattle.seating.specs.Seating.{Sheets}
-use Rattle.choice.specs.Full.{terms}
 use Rattle.hall.proofs.WaitLaws.{at-most}
-use Rattle.hall.proofs.ChoiceRounds.{held, full-refused, full-given, choice-seated}
+use Rattle.hall.proofs.ChoiceRounds.{places-fit, full-refused, full-given}
 use Rattle.hall.proofs.rounds.full_handed.Statement.{statement}
 use Rattle.hall.proofs.rounds.full_handed.Tie as tie
 
@@ -17,23 +14,26 @@ use Rattle.hall.proofs.rounds.full_handed.Tie as tie
 places : (c : tie.Start) → length (c .args .bookings) ≡ 64
 places c = search (unmapped, needs)
 
-check-full-requires : tie.Need-check-full-requires
-check-full-requires c κs = search needs
+check-sheets-and-clock-requires : tie.Need-check-sheets-and-clock-requires
+check-sheets-and-clock-requires c κs = search needs
 
 enum-known-checked : tie.Need-enum-known-checked
 enum-known-checked c = search needs
+
+first-refusal-requires : tie.Need-first-refusal-requires
+first-refusal-requires c κs = search needs
 
 refuses-requires : tie.Need-refuses-requires
 refuses-requires c κs = search needs
 
 returns : tie.Need-returns
 returns c =
-    let a = c .before .before .before .before .before .before .before .before .before .before .before .before .args in
+    let a = c .before .before .before .before .before .before .before .before .before .before .before .before .before .args in
     let r = ofRules (a .ids .now) (a .ratings .now) (a .parties .now) (a .roles .now) (a .regions .now) in
     let bs = a .bookings in
-    let long = places (c .before .before .before .before .before .before .before .before .before .before .before .before) in
+    let long = places (c .before .before .before .before .before .before .before .before .before .before .before .before .before) in
     let sheets : Sheets = record { players = a .players .now; qualities = a .qualities .now } in
-    full-refused (a .sizes) (a .constraints) (a .objectives) (a .count) r (a .clock) sheets (take (a .n) bs) (at-most bs (a .n) long) _ (c .before .before .before .before .check-full .ensures) _ (c .before .before .checked .given .1) (c .refuses .ensures)
+    full-refused (a .sizes) (a .constraints) (a .objectives) (a .count) r (a .clock) sheets (take (a .n) bs) (at-most bs (a .n) long) _ (c .before .before .before .before .before .check-sheets-and-clock .ensures) _ (c .before .before .before .checked .given .1) (c .before .first-refusal .result) (c .before .first-refusal .ensures) (c .refuses .ensures)
 
 enum-told : tie.Need-enum-told
 enum-told c = search needs
@@ -44,19 +44,10 @@ eligible-requires c κs = search needs
 best-choice-requires : tie.Need-best-choice-requires
 best-choice-requires c κs = search needs
 
-add-each : tie.Need-add-each
-add-each c =
-    let a = c .before .before .before .before .before .before .before .before .before .before .before .before .before .args in
-    let r = ofRules (a .ids .now) (a .ratings .now) (a .parties .now) (a .roles .now) (a .regions .now) in
-    let fits = held (a .sizes) (a .constraints) (a .count) r (a .clock) (length (a .players .now)) (length (a .qualities .now)) (c .before .before .before .enum-told .given .1) (c .before .before .before .before .before .check-full .ensures) in
-    omega (arith, fits .a, fits .b)
-
 choice-handed-requires : tie.Need-choice-handed-requires
 choice-handed-requires c κs =
-    let a = c .before .before .before .before .before .before .before .before .before .before .before .before .before .before .before .args in
-    let r = ofRules (a .ids .now) (a .ratings .now) (a .parties .now) (a .roles .now) (a .regions .now) in
-    let fits = held (a .sizes) (a .constraints) (a .count) r (a .clock) (length (a .players .now)) (length (a .qualities .now)) (c .before .before .before .before .before .enum-told .given .1) (c .before .before .before .before .before .before .before .check-full .ensures) in
-    ((omega (arith, fits .a, fits .b, fits .players-fit), omega (arith, fits .qualities-fit)), choice-seated (terms r (a .constraints) (a .objectives) (a .count)) (a .sizes) (queueOf (c .before .before .before .before .eligible .result)) _ (c .before .before .before .best-choice .ensures .outcome))
+    let a = c .before .before .before .before .before .before .before .before .before .before .before .before .before .before .args in
+    places-fit (a .clock) (length (a .players .now)) (length (a .qualities .now)) (c .before .before .before .before .enum-told .given .1) (c .before .before .before .before .before .before .check-sheets-and-clock .ensures)
 
 same-length : tie.Need-same-length
 same-length c = search needs
@@ -66,25 +57,25 @@ same-length-2 c = search needs
 
 returns-2 : tie.Need-returns-2
 returns-2 c =
-    let a = c .before .before .before .before .before .before .before .before .before .before .before .before .before .before .before .before .before .before .before .before .args in
+    let a = c .before .before .before .before .before .before .before .before .before .before .before .before .before .before .before .before .before .before .before .args in
     let r = ofRules (a .ids .now) (a .ratings .now) (a .parties .now) (a .roles .now) (a .regions .now) in
     let bs = a .bookings in
-    let long = places (c .before .before .before .before .before .before .before .before .before .before .before .before .before .before .before .before .before .before .before .before) in
+    let long = places (c .before .before .before .before .before .before .before .before .before .before .before .before .before .before .before .before .before .before .before) in
     let sheets : Sheets = record { players = a .players .now; qualities = a .qualities .now } in
-    full-given (a .sizes) (a .constraints) (a .objectives) (a .count) r (a .clock) sheets (take (a .n) bs) (at-most bs (a .n) long) _ (c .before .before .before .before .before .before .before .before .before .before .before .before .check-full .ensures) (c .before .before .before .before .before .before .before .before .before .before .enum-told .given .1) (c .before .before .before .before .before .before .before .before .before .eligible .ensures) (c .before .before .before .before .before .before .before .before .best-choice .ensures .outcome) (c .before .before .before .before .choice-handed .ensures)
+    full-given (a .sizes) (a .constraints) (a .objectives) (a .count) r (a .clock) sheets (take (a .n) bs) (at-most bs (a .n) long) _ (c .before .before .before .before .before .before .before .before .before .before .before .check-sheets-and-clock .ensures) (c .before .before .before .before .before .before .before .before .before .enum-told .given .1) (c .before .before .before .before .before .before .before .before .eligible .ensures) (c .before .before .before .before .before .before .before .best-choice .ensures .outcome) (c .before .before .before .before .choice-handed .ensures)
 
 pub full-handed-spec : {M : Type 1} → statement M
 full-handed-spec =
     tie.close
     (tie.spec
-    check-full-requires
+    check-sheets-and-clock-requires
     enum-known-checked
+    first-refusal-requires
     refuses-requires
     returns
     enum-told
     eligible-requires
     best-choice-requires
-    add-each
     choice-handed-requires
     same-length
     same-length-2

@@ -8,7 +8,7 @@ use Rattle.base.proofs.Arrays.{unmapped}
 use Rattle.queue.specs.Queue.{queueOf}
 use Rattle.roster.specs.Roster.{ofRatings}
 use Rattle.seating.specs.Seating.{Sheets}
-use Rattle.greedy.proofs.Checked.{passed-check}
+use Rattle.seating.proofs.Checked.{passed-check}
 use Rattle.hall.proofs.RoundLaws.{greedy-refused, greedy-clock, greedy-search-refused, greedy-fits, greedy-given}
 use Rattle.hall.proofs.WaitLaws.{at-most}
 use Rattle.hall.proofs.rounds.greedy_handed.Statement.{statement}

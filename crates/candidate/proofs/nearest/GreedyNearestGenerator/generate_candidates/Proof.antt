@@ -11,7 +11,7 @@ use Rattle.roster.specs.Roster.{ofRatings}
 use Rattle.base.proofs.All.{all-below}
 use Rattle.ranking.proofs.Turning.{has-risen}
 use Rattle.seating.specs.Seating.{seatsOf}
-use Rattle.greedy.proofs.Checked.{passed-check}
+use Rattle.seating.proofs.Checked.{passed-check}
 use Rattle.candidate.specs.Nearest.{ratingFor}
 use Rattle.candidate.specs.Steps.{howMany}
 use Rattle.candidate.proofs.Laws.{passed-roster, order-refused, order-given, seated-row, many-fit, nearest-refused, nearest-seatless, nearest-few, nearest-unranked, nearest-given}

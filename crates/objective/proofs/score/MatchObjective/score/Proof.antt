@@ -131,9 +131,9 @@ returns-5 c =
     let r = ofDeviations (a .ids .now) (a .ratings .now) (a .deviations .now) in
     let m = matchOf (a .proposed) in
     let seated-fit = sym (c .before .before .before .before .before .before .before .before .before .before .before .before .before .before .before .before .before .before .before .before .is-overfull .ensures) ∙ c .before .before .before .before .before .before .before .before .before .before .before .before .before .before .before .before .before .before .before .if1 .left in
-    let late = c .before .any-over .ensures ∙ ap (λ (k : Columns). any time.timeOver (take (a .queue .len) (k .joined))) (c .before .before .before .before .before .columns .ensures) ∙ over-by-column (a .queue .entries) (a .queue .len) in
+    let joined-over = c .before .any-over .ensures ∙ ap (λ (k : Columns). any time.timeOver (take (a .queue .len) (k .joined))) (c .before .before .before .before .before .columns .ensures) ∙ over-by-column (a .queue .entries) (a .queue .len) in
     score-joined (a .self) r (queueOf (a .queue)) (a .clock) m seated-fit (le-ltb _ _ (c .before .before .before .before .before .before .before .before .before .before .before .before .before .before .before .before .before .if2 .left)) _ (c .before .before .before .before .before .before .before .before .before .before .before .checked-rows .ensures .0) (c .before .before .before .before .before .before .before .before .enum-told .given .1)
-    (sym (c .before .before .before .before .before .before .before .is-over .ensures) ∙ c .before .before .before .before .before .before .if3 .left) (sym late ∙ c .if4 .taken)
+    (sym (c .before .before .before .before .before .before .before .is-over .ensures) ∙ c .before .before .before .before .before .before .if3 .left) (sym joined-over ∙ c .if4 .taken)
 
 array-share-prefix-players-2 : tie.Need-array-share-prefix-players-2
 array-share-prefix-players-2 c =
@@ -197,7 +197,7 @@ returns-6 c =
     let r = ofDeviations (a .ids .now) (a .ratings .now) (a .deviations .now) in
     let m = matchOf (a .proposed) in
     let seated-fit = sym (c .before .before .before .before .before .before .before .before .before .before .before .before .before .before .before .before .before .before .before .before .before .before .before .before .before .is-overfull .ensures) ∙ c .before .before .before .before .before .before .before .before .before .before .before .before .before .before .before .before .before .before .before .before .before .before .before .before .if1 .left in
-    let late = c .before .before .before .before .before .before .any-over .ensures ∙ ap (λ (k : Columns). any time.timeOver (take (a .queue .len) (k .joined))) (c .before .before .before .before .before .before .before .before .before .before .columns .ensures) ∙ over-by-column (a .queue .entries) (a .queue .len) in
+    let joined-over = c .before .before .before .before .before .before .any-over .ensures ∙ ap (λ (k : Columns). any time.timeOver (take (a .queue .len) (k .joined))) (c .before .before .before .before .before .before .before .before .before .before .columns .ensures) ∙ over-by-column (a .queue .entries) (a .queue .len) in
     let k = c .before .before .before .before .before .before .before .before .before .before .before .before .before .before .before .before .checked-rows in
     let passed = c .before .before .before .before .before .before .before .before .before .before .before .before .before .enum-told .given .1 in
     let even = passed-even (a .ids .now) (length (a .ratings .now) ∷ length (a .deviations .now) ∷ []) [] (k .result) passed (k .ensures .0) in
@@ -215,7 +215,7 @@ returns-6 c =
     let wait = c .before .longest-wait .ensures ∙ longest-known everyone waits in
     let s = score-of-rows (a .self) (a .ids .now) (a .ratings .now) (a .deviations .now) (queueOf (a .queue) .entries) (a .clock) m (first .0) (second .0) (rows-first f x y sheet room laid) (rows-second f x y sheet room laid) (rows-all f x y sheet room laid) wait in
     score-given (a .self) r (queueOf (a .queue)) (a .clock) m seated-fit (le-ltb _ _ (c .before .before .before .before .before .before .before .before .before .before .before .before .before .before .before .before .before .before .before .before .before .before .if2 .left)) _ (k .ensures .0) passed
-    (sym (c .before .before .before .before .before .before .before .before .before .before .before .before .is-over .ensures) ∙ c .before .before .before .before .before .before .before .before .before .before .before .if3 .left) (sym late ∙ c .before .before .before .before .before .if4 .left) (c .score-by-rows .ensures ∙ s)
+    (sym (c .before .before .before .before .before .before .before .before .before .before .before .before .is-over .ensures) ∙ c .before .before .before .before .before .before .before .before .before .before .before .if3 .left) (sym joined-over ∙ c .before .before .before .before .before .if4 .left) (c .score-by-rows .ensures ∙ s)
 
 pub score-spec : {M : Type 1} → statement M
 score-spec =
