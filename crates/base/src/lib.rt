@@ -1,8 +1,11 @@
-// What every crate shares: document 01's refusals, and `abs`, `min` and the test for NaN on floats.
+// What every crate shares: document 01's refusals; `abs`, `min` and the test for NaN on floats; a number with a limit, and whether one is among
+// others.
 ghost use mathlib.Core.Path.{_≡_};
+ghost use Prim.Native.Nat as Nat;
 ghost use lib.Ieee.{isNan};
 ghost use Rattle.base.specs.Refusals.{refusalNumber};
 ghost use Rattle.base.specs.Floats.{absOf, minOf};
+ghost use Rattle.base.specs.Lists.{member};
 
 // Document 01's twelve refusals, in the order of its table.
 pub enum Refusal {
@@ -79,4 +82,28 @@ pub fn is_nan(x: f64) -> bool
     ensures { λ r. ⌜ r ≡ isNan x ⌝ }
 {
     x != x
+}
+
+// So many, or the limit where they are more.
+pub fn at_most(n: usize, limit: usize) -> usize
+    ensures { λ r. ⌜ r ≡ Nat.min n limit ⌝ }
+{
+    if limit < n {
+        return limit;
+    }
+    n
+}
+
+// Is the number among these?
+pub fn is_among(numbers: &[u64], number: u64) -> bool
+    ensures { λ r. ⌜ r ≡ member number (now (numbers .entry)) ⌝ }
+{
+    let mut i: usize = 0;
+    while i < numbers.len() {
+        if numbers[i] == number {
+            return true;
+        }
+        i += 1;
+    }
+    false
 }

@@ -67,10 +67,7 @@ impl SoftObjectives {
     fn held(self) -> usize
         ensures { λ r. ⌜ r ≡ min (self .len) 8 ⌝ }
     {
-        if 8 < self.len {
-            return 8;
-        }
-        self.len
+        base::at_most(self.len, 8)
     }
 
     // Is a code among the first `len` no kind?

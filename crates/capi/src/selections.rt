@@ -1,6 +1,5 @@
 // The four selections, exported.
 ghost use mathlib.Core.Path.{_≡_};
-ghost use Prim.Native.Nat.{min};
 ghost use Rattle.roster.specs.Roster.{ofRatings};
 ghost use Rattle.selection.specs.Selection.{selectedOf};
 ghost use Rattle.capi.specs.Selections.{SelectNumbers, greedyNumbers, thresholdNumbers, lexicographicNumbers, weightedNumbers};
@@ -24,15 +23,6 @@ pub struct Selected {
     pub refusal: u8,
 }
 
-fn at_most_64(n: usize) -> usize
-    ensures { λ r. ⌜ r ≡ min n 64 ⌝ }
-{
-    if 64 < n {
-        return 64;
-    }
-    n
-}
-
 // A refusal, and no place.
 fn refused(refusal: u8) -> Selected
     ensures { λ r. ⌜ (r .len ≡ 0) × (r .refusal ≡ refusal) ⌝ }
@@ -53,7 +43,7 @@ fn selected_numbers(selected: selection::Selected) -> Selected
         Checked::Refused(refusal) => refused(refusal.number()),
         Checked::Passed => Selected {
             places: places,
-            len: at_most_64(selected.count),
+            len: base::at_most(selected.count, 64),
             refusal: 0,
         },
     }

@@ -12,20 +12,6 @@ use base::Checked;
 use base::Refusal;
 use matchmaker::ProposedMatch;
 
-// Is the player among these?
-fn is_among(players: &[u64], player: u64) -> bool
-    ensures { λ r. ⌜ r ≡ member player (now (players .entry)) ⌝ }
-{
-    let mut i: usize = 0;
-    while i < players.len() {
-        if players[i] == player {
-            return true;
-        }
-        i += 1;
-    }
-    false
-}
-
 // Is the row's player among these, or the row of another party?
 fn row_passes(players: &[u64], id: u64, row: u64, party: u64) -> bool
     ensures { λ r. ⌜ r ≡ not (eqb row party && not (member id (now (players .entry)))) ⌝ }
@@ -33,7 +19,7 @@ fn row_passes(players: &[u64], id: u64, row: u64, party: u64) -> bool
     if row != party {
         return true;
     }
-    is_among(players, id)
+    base::is_among(players, id)
 }
 
 // Is every row of the party among these?

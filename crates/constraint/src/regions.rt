@@ -73,10 +73,7 @@ impl RegionConstraint {
     fn held(self) -> usize
         ensures { λ r. ⌜ r ≡ length (pairsOf self) ⌝ }
     {
-        if 16 < self.count {
-            return 16;
-        }
-        self.count
+        base::at_most(self.count, 16)
     }
 
     // Refusal 2 of a pair.

@@ -97,10 +97,7 @@ impl RoleConstraint {
     pub fn held(self) -> usize
         ensures { λ r. ⌜ r ≡ length (requirementsOf self) ⌝ }
     {
-        if 8 < self.count {
-            return 8;
-        }
-        self.count
+        base::at_most(self.count, 8)
     }
 
     // Does every requirement hold?

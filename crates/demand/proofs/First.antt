@@ -10,7 +10,7 @@ use borrow.Author.Tests.{ltb-true, ltb-false, lt-ltb, eqb-true}
 use lib.Dec.{eqb, ltb}
 use lib.ListN.{length, take, drop, length-append, length-map, length-take, take-append-drop}
 use lib.Seq.{take-all, take-append-le}
-use Rattle.base.specs.Lists.{seek, member}
+use Rattle.base.specs.Lists.{seek, member, isSome}
 use Rattle.base.proofs.Cases.{cases, never}
 use Rattle.base.proofs.Loops.{any-append}
 use Rattle.hall.specs.Hall.{Deed, Signature, same, contentOf, signed}
@@ -25,14 +25,9 @@ keysIn = map (λ s. s .key)
 abbrev originOf : ℕ → List Signature → Option Signature
 originOf k = seek (λ t. eqb (t .key) k) some none
 
--- is there one?
-isSome : Option Signature → Bool
-isSome none = false
-isSome (some s) = true
-
 -- a key has an original exactly where it is one of their keys
 origin-member : (k : ℕ) (o : List Signature) → isSome (originOf k o) ≡ member k (keysIn o)
-unfolding seek isSome
+unfolding seek
 origin-member k [] = refl
 origin-member k (s ∷ o) = cases (eqb (s .key) k) (λ t. rw t) (λ f. rw f (origin-member k o))
 
@@ -61,7 +56,7 @@ module _ (o : List Signature) (s : List ℕ) (e : keysIn o ≡ take 1024 s) wher
 
   -- one call more, and they still are the first 1,024 of the different keys
   grow-take : (k : ℕ) (d : Deed) → keysIn (growBy o (signed k d) (markOf o (signed k d))) ≡ take 1024 (cond (member k s) s (s ++ (k ∷ [])))
-  unfolding markOf isSome
+  unfolding markOf
   grow-take k d = go (originOf k o) (ltb (length o) 1024) (member k s) refl refl refl
     where
       has : (f : Option Signature) → originOf k o ≡ f → member k (keysIn o) ≡ isSome f
@@ -140,7 +135,6 @@ mark-none o s e = go (originOf (s .key) o) (ltb (length o) 1024) refl refl e
 
 -- where there is none it is none
 is-none : (f : Option Signature) → isSome f ≡ false → f ≡ none
-unfolding isSome
 is-none none e = refl
 is-none (some s) e = never cc
 
@@ -151,7 +145,7 @@ none-mark o s e h = rw (e, lt-ltb (length o) 1024 h)
 
 -- a call is marked an original exactly where it is the first with its key, one of the first 1,024 different ones
 pub first-iff : (pre : List Call) (k : ℕ) (d : Deed) → (mark (originals [] pre) (keyed k d) ≡ original) ↔ First pre k
-unfolding isSome seek
+unfolding seek
 first-iff pre k d = (to, from)
   where
     o : List Signature

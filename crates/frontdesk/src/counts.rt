@@ -1,5 +1,5 @@
 // How much of an array is lent where its first `count` are meant: all of it at most.
-ghost use Rattle.frontdesk.specs.Counts.{Counts};
+ghost use Rattle.base.specs.Sheets.{Counts};
 
 pub fn wholes(count: usize, array: &[u64]) -> usize
     ensures { λ r. ⌜ Counts r (now (array .entry)) ⌝ }

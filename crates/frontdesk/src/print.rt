@@ -12,14 +12,7 @@ pub fn byte(b: u8) {
 // So many blanks, 40 at most.
 fn blanks(count: usize) {
     let spaces = b"                                        ";
-    io::write_all(1, crate::words::part(spaces, 0, least(count, 40)));
-}
-
-fn least(a: usize, b: usize) -> usize {
-    if a < b {
-        return a;
-    }
-    b
+    io::write_all(1, crate::words::part(spaces, 0, base::at_most(count, 40)));
 }
 
 // How much is left of `width`.

@@ -281,10 +281,7 @@ fn behind(at: usize, seats: usize, places: usize) -> usize
     requires { ⌜ at ≤ places ⌝ }
     ensures { λ r. ⌜ r ≡ at + min seats (places - at) ⌝ }
 {
-    if places - at < seats {
-        return places;
-    }
-    at + seats
+    at + base::at_most(seats, places - at)
 }
 
 // A complete match goes onto the sheets with its quality, behind those that are written.

@@ -1,7 +1,7 @@
 // Who waits: the first bookings of an array.
 ghost use mathlib.Core.Path.{_≡_};
 ghost use mathlib.Core.List.{_++_, map};
-ghost use Prim.Native.Nat.{_+_, _-_, _≤_, _<_, min};
+ghost use Prim.Native.Nat.{_+_, _-_, _≤_, _<_};
 ghost use lib.ListN.{take, drop};
 ghost use Rattle.base.specs.Lists.{any, place, member};
 ghost use Rattle.queue.specs.Queue.{queueOf, holding};
@@ -29,16 +29,6 @@ impl Booking {
             role: self.role,
         }
     }
-}
-
-// How many of the first n there are.
-fn held(n: usize) -> usize
-    ensures { λ r. ⌜ r ≡ min n 64 ⌝ }
-{
-    if 64 < n {
-        return 64;
-    }
-    n
 }
 
 // The place of the player's first booking among the first n, or n.
@@ -75,7 +65,7 @@ fn closed_up(bookings: [Booking; 64], n: usize, at: usize) -> [Booking; 64]
 pub fn waits(bookings: [Booking; 64], n: usize, player: u64) -> bool
     ensures { λ r. ⌜ r ≡ any (bookedBy player) (take n bookings) ⌝ }
 {
-    let k = held(n);
+    let k = base::at_most(n, 64);
     place_of(bookings, k, player) < k
 }
 
@@ -83,7 +73,7 @@ pub fn waits(bookings: [Booking; 64], n: usize, player: u64) -> bool
 pub fn without_first(bookings: [Booking; 64], n: usize, player: u64) -> Staying
     ensures { λ r. ⌜ waitsWith (r .waiting) (r .bookings) ≡ awaiting (withoutGuest player (take n bookings)) ⌝ }
 {
-    let k = held(n);
+    let k = base::at_most(n, 64);
     let at = place_of(bookings, k, player);
     if k <= at {
         return Staying {
@@ -98,7 +88,7 @@ pub fn without_first(bookings: [Booking; 64], n: usize, player: u64) -> Staying
     }
 }
 
-// Does the player stand in the first `seats` places of the sheet? `queue::is_named` on that part of it makes a round copy its hall once
+// Does the player stand in the first `seats` places of the sheet? `base::is_among` on that part of it makes a round copy its hall once
 // more: the compiler then inlines otherwise.
 fn is_seated(players: &[u64], seats: usize, player: u64) -> bool
     ensures { λ r. ⌜ r ≡ member player (take seats (now (players .entry))) ⌝ }
@@ -120,7 +110,7 @@ fn is_seated(players: &[u64], seats: usize, player: u64) -> bool
 pub fn without_seated(bookings: [Booking; 64], n: usize, players: &[u64], seats: usize) -> Staying
     ensures { λ r. ⌜ waitsWith (r .waiting) (r .bookings) ≡ awaiting (withoutGuests (take seats (now (players .entry))) (take n bookings)) ⌝ }
 {
-    let k = held(n);
+    let k = base::at_most(n, 64);
     let mut stay = bookings;
     let mut m: usize = 0;
     let mut i: usize = 0;
@@ -144,7 +134,7 @@ pub fn without_seated(bookings: [Booking; 64], n: usize, players: &[u64], seats:
 pub fn eligible(bookings: [Booking; 64], n: usize) -> Queue
     ensures { λ r. ⌜ queueOf r ≡ holding (map entryOf (take n bookings)) ⌝ }
 {
-    let k = held(n);
+    let k = base::at_most(n, 64);
     let mut queue = Queue::empty();
     let mut i: usize = 0;
     while i < k {

@@ -99,10 +99,7 @@ impl Team {
     pub fn held(self) -> usize
         ensures { λ r. ⌜ r ≡ length (teamOf self .players) ⌝ }
     {
-        if 8 < self.len {
-            return 8;
-        }
-        self.len
+        base::at_most(self.len, 8)
     }
 
     // The sum with what the column says of the team's players, in their order.

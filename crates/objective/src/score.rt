@@ -30,7 +30,7 @@ pub enum Score {
 }
 
 // The longer of two waits.
-fn longer_of(x: f64, y: f64) -> f64
+pub fn longer_of(x: f64, y: f64) -> f64
     ensures { λ r. ⌜ r ≡ longer x y ⌝ }
 {
     if x < y {

@@ -1,6 +1,5 @@
 // The soft objectives: what a full round ranks the choices by.
 ghost use mathlib.Core.Path.{_≡_};
-ghost use Prim.Native.Nat.{min};
 ghost use lib.ListN.{take};
 ghost use Rattle.roster.specs.Roster.{ofRatings};
 ghost use Rattle.matchmaker.specs.Quality.{matchOf};
@@ -80,21 +79,11 @@ fn add_weighted(sum: f64, objective: SoftObjective, quality: f64, latency: f64) 
     sum + objective.weight() * objective.value_from(quality, latency)
 }
 
-// How many objectives there are, whatever number is stated.
-fn held(count: usize) -> usize
-    ensures { λ r. ⌜ r ≡ min count 8 ⌝ }
-{
-    if 8 < count {
-        return 8;
-    }
-    count
-}
-
 // The weighted sum of the first `count` objectives, 8 at most, where quality and latency are known.
 pub fn weighted_sum(objectives: [SoftObjective; 8], count: usize, quality: f64, latency: f64) -> f64
     ensures { λ r. ⌜ r ≡ weightedSum quality latency (take count objectives) ⌝ }
 {
-    let n = held(count);
+    let n = base::at_most(count, 8);
     let mut sum = 0.0;
     let mut i: usize = 0;
     while i < n {

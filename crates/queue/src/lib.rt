@@ -1,10 +1,10 @@
 // The waiting queue (queue.rs), by value: a queue goes in and the changed one comes out.
 ghost use mathlib.Core.Path.{_≡_};
 ghost use mathlib.Core.List.{[], _++_, map};
-ghost use Prim.Native.Nat.{_+_, _≤_, _<_, min};
+ghost use Prim.Native.Nat.{_+_, _≤_, _<_};
 ghost use lib.ListN.{take, drop};
 ghost use Rattle.base.specs.Refusals.{checkedOf};
-ghost use Rattle.base.specs.Lists.{any, place, member};
+ghost use Rattle.base.specs.Lists.{any, place};
 ghost use Rattle.queue.specs.Queue.{queueOf, holding, isOf, joinedOver, queueCheck, enqueuedOf, enqueueRule, removedOf, taking, removeRule, batchOf, parting, batchRule, waitOf, waitedOf, firstWait, waitRule};
 ghost use Rattle.queue.specs.Columns.{columnsOf};
 use base::Checked;
@@ -79,16 +79,6 @@ pub enum Wait {
     Of(u64),
 }
 
-// How many entries a queue holds that states `len`.
-fn held(len: usize) -> usize
-    ensures { λ r. ⌜ r ≡ min len 64 ⌝ }
-{
-    if 64 < len {
-        return 64;
-    }
-    len
-}
-
 // Is a joined time above 2^53 among the first n entries?
 fn any_joined_over(entries: [QueueEntry; 64], n: usize) -> bool
     requires { ⌜ n ≤ 64 ⌝ }
@@ -136,20 +126,6 @@ fn closed_up(entries: [QueueEntry; 64], n: usize, at: usize) -> Queue
         entries: out,
         len: k,
     }
-}
-
-// Is the player named?
-pub fn is_named(players: &[u64], player: u64) -> bool
-    ensures { λ r. ⌜ r ≡ member player (now (players .entry)) ⌝ }
-{
-    let mut i: usize = 0;
-    while i < players.len() {
-        if players[i] == player {
-            return true;
-        }
-        i += 1;
-    }
-    false
 }
 
 impl Queue {
@@ -224,7 +200,7 @@ impl Queue {
         ensures { λ r. ⌜ r ≡ any joinedOver (queueOf self .entries) ⌝ }
     {
         let entries = self.entries;
-        any_joined_over(entries, held(self.len))
+        any_joined_over(entries, base::at_most(self.len, 64))
     }
 
     // The wait of the player's first entry, and nothing asked of the times.
@@ -232,7 +208,7 @@ impl Queue {
         ensures { λ r. ⌜ waitedOf r ≡ firstWait player clock (queueOf self .entries) ⌝ }
     {
         let entries = self.entries;
-        let n = held(self.len);
+        let n = base::at_most(self.len, 64);
         let at = place_of(entries, n, player);
         if n <= at {
             return Waited::Nobody;
@@ -279,7 +255,7 @@ impl Queue {
         ensures { λ r. ⌜ removedOf r ≡ taking player (queueOf self .entries) ⌝ }
     {
         let entries = self.entries;
-        let n = held(self.len);
+        let n = base::at_most(self.len, 64);
         let at = place_of(entries, n, player);
         if n <= at {
             return Removed {
@@ -323,7 +299,7 @@ impl Queue {
         ensures { λ r. ⌜ batchOf r ≡ parting (now (players .entry)) (queueOf self .entries) ⌝ }
     {
         let entries = self.entries;
-        let n = held(self.len);
+        let n = base::at_most(self.len, 64);
         let mut stay = entries;
         let mut gone = entries;
         let mut k: usize = 0;
@@ -331,7 +307,7 @@ impl Queue {
         let mut i: usize = 0;
         while i < n {
             let e = entries[i];
-            if is_named(players, e.player) {
+            if base::is_among(players, e.player) {
                 gone[m] = e;
                 m += 1;
                 i += 1;

@@ -8,7 +8,7 @@ ghost use lib.ListN.{length, take, drop};
 ghost use Rattle.base.specs.Refusals.{checkedOf};
 ghost use mathlib.Core.Option.{Option·getD};
 ghost use Rattle.base.specs.Floats as Floats;
-ghost use Rattle.base.specs.Lists.{any, every, member, distinct, isSome};
+ghost use Rattle.base.specs.Lists.{any, every, distinct, isSome};
 ghost use Rattle.base.specs.Sheets.{laid};
 ghost use Rattle.roster.specs.Ascending.{ascends};
 ghost use Rattle.roster.specs.Roster.{ofRatings, ofDeviations, ofParties, ofRoles, ofRegions, ofRules, partyOf, roleOf, regionOf, rulesCheck, tooLong, isRegion, columnsCheck, ratingsCheck, deviationsCheck, rosterCheck, rowOf, observe, observedOf};
@@ -53,28 +53,13 @@ impl Observed {
 
 // ---- are the ids all different?
 
-// Is the id in a row from `from` on?
-fn stands_from(ids: &[u64], from: usize, id: u64) -> bool
-    requires { ⌜ from ≤ length (now ids) ⌝ }
-    ensures { λ r. ⌜ r ≡ member id (drop from (now (ids .entry))) ⌝ }
-{
-    let mut i = from;
-    while i < ids.len() {
-        if ids[i] == id {
-            return true;
-        }
-        i += 1;
-    }
-    false
-}
-
 // Each id against all later ones.
 fn differ_pairwise(ids: &[u64]) -> bool
     ensures { λ r. ⌜ r ≡ distinct (now (ids .entry)) ⌝ }
 {
     let mut i: usize = 0;
     while i < ids.len() {
-        if stands_from(ids, i + 1, ids[i]) {
+        if base::is_among(&ids[i + 1..], ids[i]) {
             return false;
         }
         i += 1;

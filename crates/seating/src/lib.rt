@@ -1,7 +1,6 @@
 // Matches gathered by value, and the sheets that they are written to.
 ghost use mathlib.Core.Path.{_≡_};
 ghost use mathlib.Core.List.{[], map};
-ghost use Prim.Native.Nat.{min};
 ghost use lib.ListN.{length, take};
 ghost use Rattle.roster.specs.Roster.{ofRatings};
 ghost use Rattle.matchmaker.specs.Quality.{teamOf, matchOf, seated, qualityOf};
@@ -52,8 +51,8 @@ impl TeamComposition {
         ensures { λ r. ⌜ r ≡ heldSizes self ⌝ }
     {
         TeamComposition {
-            a: at_most(self.a, 8),
-            b: at_most(self.b, 8),
+            a: base::at_most(self.a, 8),
+            b: base::at_most(self.b, 8),
         }
     }
 }
@@ -97,21 +96,12 @@ pub fn nobody() -> ProposedMatch
 
 // ---- the writer
 
-pub(crate) fn at_most(n: usize, limit: usize) -> usize
-    ensures { λ r. ⌜ r ≡ min n limit ⌝ }
-{
-    if limit < n {
-        return limit;
-    }
-    n
-}
-
 // A team's players over the front of the sheet.
 fn write_team(team: Team, sheet: &mut [u64])
     ensures { λ _. ⌜ now (sheet .exit) ≡ overlaid (teamOf team .players) (now (sheet .entry)) ⌝ }
 {
     let players = team.players;
-    let n = at_most(team.held(), sheet.len());
+    let n = base::at_most(team.held(), sheet.len());
     let mut i: usize = 0;
     while i < n {
         sheet[i] = players[i];
@@ -125,7 +115,7 @@ pub fn write_match(proposed: ProposedMatch, sheet: &mut [u64])
 {
     let a = proposed.a;
     let b = proposed.b;
-    let at = at_most(a.held(), sheet.len());
+    let at = base::at_most(a.held(), sheet.len());
     write_team(a, sheet);
     write_team(b, &mut sheet[at..]);
 }
@@ -135,7 +125,7 @@ impl Matches {
     pub fn held(self) -> usize
         ensures { λ r. ⌜ r ≡ length (matchesOf self .items) ⌝ }
     {
-        at_most(self.len, 64)
+        base::at_most(self.len, 64)
     }
 
     // The quality of each match.
@@ -165,7 +155,7 @@ impl Matches {
         while i < n {
             let next = items[i];
             write_match(next, &mut sheet[at..]);
-            at = at + at_most(next.seats(), sheet.len() - at);
+            at = at + base::at_most(next.seats(), sheet.len() - at);
             i += 1;
         }
     }
@@ -175,7 +165,7 @@ impl Matches {
 pub fn write_qualities(qualities: [f64; 64], n: usize, sheet: &mut [f64])
     ensures { λ _. ⌜ now (sheet .exit) ≡ overlaid (take n qualities) (now (sheet .entry)) ⌝ }
 {
-    let many = at_most(at_most(n, 64), sheet.len());
+    let many = base::at_most(base::at_most(n, 64), sheet.len());
     let mut i: usize = 0;
     while i < many {
         sheet[i] = qualities[i];

@@ -27,8 +27,8 @@ pub fn opened(player: u64) -> ProposedMatch
 pub fn seats_left(sizes: TeamComposition) -> usize
     ensures { λ r. ⌜ r ≡ seatsLeft (heldSizes sizes) ⌝ }
 {
-    let a = crate::at_most(sizes.a, 8);
-    let b = crate::at_most(sizes.b, 8);
+    let a = base::at_most(sizes.a, 8);
+    let b = base::at_most(sizes.b, 8);
     if 0 < a {
         return a - 1 + b;
     }

@@ -1,6 +1,6 @@
 // Columns of a roster, as n and n words, into an array of 129 that the caller lends. A column that fills it is 129 alone, and
 // its rows are what the array holds.
-ghost use Rattle.vectors.specs.Lists.{Counts};
+ghost use Rattle.base.specs.Sheets.{Counts};
 use crate::lists;
 use crate::words;
 use lists::Listed;

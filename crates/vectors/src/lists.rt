@@ -1,6 +1,6 @@
 // Lists, as n and n words, into an array that the caller lends. A list that is longer than the array fails.
 ghost use Prim.Native.Nat.{_≤_};
-ghost use Rattle.vectors.specs.Lists.{Counts};
+ghost use Rattle.base.specs.Sheets.{Counts};
 use crate::floats;
 use crate::words;
 use words::Cursor;

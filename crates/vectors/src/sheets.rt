@@ -1,7 +1,7 @@
 // What searches and generators bring and leave. Sizes, as a b. Sheets, as the number of places lent for players and for qualities:
 // place i holds player i + 1000 beforehand, and every quality is -1.0. Matches, as k and k players, then c and c qualities: these
 // have to stand on the sheets, and behind them what stood there before.
-ghost use Rattle.vectors.specs.Lists.{Counts};
+ghost use Rattle.base.specs.Sheets.{Counts};
 use crate::floats;
 use crate::lists;
 use crate::refusals;

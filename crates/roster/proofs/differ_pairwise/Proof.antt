@@ -1,9 +1,10 @@
 -- `roster::differ_pairwise` meets its contract: the rest of the ids decides what all of them decide.
-use Prim.Native.Nat.{_-_, _≤_}
-use mathlib.Core.Path.{_≡_, refl, sym, _∙_}
+use Prim.Native.Nat.{_+_, _-_, _≤_}
+use mathlib.Core.Path.{_≡_, refl, sym, ap, _∙_}
 use native.Mathlib.Omega.{arith}
-use lib.ListN.{length, drop}
-use Rattle.base.specs.Lists.{distinct}
+use lib.ListN.{length, drop, getD}
+use Rattle.base.specs.Lists.{member, distinct}
+use Rattle.base.proofs.Sheets.{rest}
 use Rattle.roster.proofs.Laws.{distinct-not, distinct-on, distinct-end}
 use borrow.Author.Needs.{needs}
 use Rattle.roster.proofs.differ_pairwise.Statement.{statement}
@@ -18,23 +19,35 @@ abbrev μ-loop : tie.MeasureT-loop
 loop-holds : tie.Need-loop-holds Inv-loop μ-loop
 loop-holds c = (omega arith, refl)
 
-add-stands-from : tie.Need-add-stands-from Inv-loop μ-loop
-add-stands-from c = search needs
+add-is-among : tie.Need-add-is-among Inv-loop μ-loop
+add-is-among c = search needs
 
-mul-stands-from : tie.Need-mul-stands-from Inv-loop μ-loop
-mul-stands-from c = search needs
+mul-is-among : tie.Need-mul-is-among Inv-loop μ-loop
+mul-is-among c = search needs
 
-shared-slice-read-stands-from : tie.Need-shared-slice-read-stands-from Inv-loop μ-loop
-shared-slice-read-stands-from c = search needs
+sub-is-among : tie.Need-sub-is-among Inv-loop μ-loop
+sub-is-among c = search needs
 
-stands-from-requires : tie.Need-stands-from-requires Inv-loop μ-loop
-stands-from-requires c κs = search needs
+part-is-among-start : tie.Need-part-is-among-start Inv-loop μ-loop
+part-is-among-start c = search needs
+
+part-is-among-end : tie.Need-part-is-among-end Inv-loop μ-loop
+part-is-among-end c = search needs
+
+mul-is-among-2 : tie.Need-mul-is-among-2 Inv-loop μ-loop
+mul-is-among-2 c = search needs
+
+shared-slice-read-is-among : tie.Need-shared-slice-read-is-among Inv-loop μ-loop
+shared-slice-read-is-among c = search needs
+
+is-among-requires : tie.Need-is-among-requires Inv-loop μ-loop
+is-among-requires c κs = search needs
 
 returns : tie.Need-returns Inv-loop μ-loop
 returns c =
-    let l = c .before .before .before .before .loop in
-    let a = c .before .before .before .before .before .before .args in
-    distinct-not (a .ids .now) (l .i) (l .inv .1) (omega arith) (sym (c .before .stands-from .ensures) ∙ c .if1 .taken)
+    let l = c .before .before .before .before .before .loop in
+    let a = c .before .before .before .before .before .before .before .args in
+    distinct-not (a .ids .now) (l .i) (l .inv .1) (omega arith) (sym (c .before .is-among .ensures ∙ ap (member (getD (a .ids .now) (l .i) 0)) (rest (a .ids .now) (l .i + 1))) ∙ c .if1 .taken)
 
 add-i : tie.Need-add-i Inv-loop μ-loop
 add-i c = search needs
@@ -44,9 +57,9 @@ loop-less c = search needs
 
 loop-again : tie.Need-loop-again Inv-loop μ-loop
 loop-again c =
-    let l = c .before .before .before .before .loop in
-    let a = c .before .before .before .before .before .before .args in
-    (omega arith, distinct-on (a .ids .now) (l .i) (l .inv .1) (omega arith) (sym (c .before .stands-from .ensures) ∙ c .if1 .left))
+    let l = c .before .before .before .before .before .loop in
+    let a = c .before .before .before .before .before .before .before .args in
+    (omega arith, distinct-on (a .ids .now) (l .i) (l .inv .1) (omega arith) (sym (c .before .is-among .ensures ∙ ap (member (getD (a .ids .now) (l .i) 0)) (rest (a .ids .now) (l .i + 1))) ∙ c .if1 .left))
 
 returns-2 : tie.Need-returns-2 Inv-loop μ-loop
 returns-2 c =
@@ -61,10 +74,14 @@ differ-pairwise-spec =
     Inv-loop
     μ-loop
     loop-holds
-    add-stands-from
-    mul-stands-from
-    shared-slice-read-stands-from
-    stands-from-requires
+    add-is-among
+    mul-is-among
+    sub-is-among
+    part-is-among-start
+    part-is-among-end
+    mul-is-among-2
+    shared-slice-read-is-among
+    is-among-requires
     returns
     add-i
     loop-less

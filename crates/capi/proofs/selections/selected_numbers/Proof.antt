@@ -20,8 +20,8 @@ refused-requires c κs = search needs
 enum-told : tie.Need-enum-told
 enum-told c = search needs
 
-at-most-64-requires : tie.Need-at-most-64-requires
-at-most-64-requires c κs = search needs
+at-most-requires : tie.Need-at-most-requires
+at-most-requires c κs = search needs
 
 returns : tie.Need-returns
 returns c = search needs
@@ -30,9 +30,9 @@ returns-2 : tie.Need-returns-2
 returns-2 c =
     let s = c .before .before .before .before .args .selected in
     let f : length (s .places) ≡ 64 = search needs in
-    let e = ap (λ (n : ℕ). take n (s .places)) (c .at-most-64 .ensures) ∙ take-held (s .places) (s .count) 64 f in
+    let e = ap (λ (n : ℕ). take n (s .places)) (c .at-most .ensures) ∙ take-held (s .places) (s .count) 64 f in
     rw (c .before .enum-told .given .1)
-    (record { places = e; len = omega (arith, length-take (s .count) (s .places), c .at-most-64 .ensures); refusal = refl })
+    (record { places = e; len = omega (arith, length-take (s .count) (s .places), c .at-most .ensures); refusal = refl })
 
 pub selected-numbers-spec : {M : Type 1} → statement M
 selected-numbers-spec =
@@ -42,6 +42,6 @@ selected-numbers-spec =
     number-requires
     refused-requires
     enum-told
-    at-most-64-requires
+    at-most-requires
     returns
     returns-2)

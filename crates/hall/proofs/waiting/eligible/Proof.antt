@@ -17,8 +17,8 @@ Inv-loop n bookings k queue₀ i₀ queue i = (i ≤ k) × (length (queue .entri
 abbrev μ-loop : tie.MeasureT-loop
 μ-loop n bookings k queue₀ i₀ queue i = k - i
 
-held-requires : tie.Need-held-requires Inv-loop μ-loop
-held-requires c κs = search needs
+at-most-requires : tie.Need-at-most-requires Inv-loop μ-loop
+at-most-requires c κs = search needs
 
 empty-requires : tie.Need-empty-requires Inv-loop μ-loop
 empty-requires c κs = search needs
@@ -64,7 +64,7 @@ returns c =
     let s = a .before .before .before .args in
     let l = a .loop in
     let w : length (s .t1) ≡ 64 = search (unmapped, needs) in
-    queued (s .t1) (s .n) _ w (a .before .before .held .ensures) (l .queue .entries) (l .i) (l .inv .1) (omega arith) (omega arith) (l .inv .2)
+    queued (s .t1) (s .n) _ w (a .before .before .at-most .ensures) (l .queue .entries) (l .i) (l .inv .1) (omega arith) (omega arith) (l .inv .2)
 
 pub eligible-spec : {M : Type 1} → statement M
 eligible-spec =
@@ -72,7 +72,7 @@ eligible-spec =
     (tie.spec
     Inv-loop
     μ-loop
-    held-requires
+    at-most-requires
     empty-requires
     loop-holds
     mul-booking

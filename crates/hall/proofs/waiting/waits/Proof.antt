@@ -8,17 +8,17 @@ use Rattle.hall.proofs.WaitLaws.{waits-by}
 use Rattle.hall.proofs.waiting.waits.Statement.{statement}
 use Rattle.hall.proofs.waiting.waits.Tie as tie
 
-held-requires : tie.Need-held-requires
-held-requires c κs = search needs
+at-most-requires : tie.Need-at-most-requires
+at-most-requires c κs = search needs
 
 place-of-requires : tie.Need-place-of-requires
-place-of-requires c κs = omega (arith, c .held .ensures)
+place-of-requires c κs = omega (arith, c .at-most .ensures)
 
 returns : tie.Need-returns
 returns c =
     let a = c .before .before .args in
     let long : length (a .bookings) ≡ 64 = search (unmapped, needs) in
-    waits-by (a .bookings) (a .n) _ long (c .before .held .ensures) _ (a .player) (c .place-of .ensures)
+    waits-by (a .bookings) (a .n) _ long (c .before .at-most .ensures) _ (a .player) (c .place-of .ensures)
 
 pub waits-spec : {M : Type 1} → statement M
-waits-spec = tie.close (tie.spec held-requires place-of-requires returns)
+waits-spec = tie.close (tie.spec at-most-requires place-of-requires returns)

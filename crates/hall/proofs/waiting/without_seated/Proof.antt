@@ -20,8 +20,8 @@ Inv-loop n players seats bookings k stay₀ m₀ i₀ stay m i = (i ≤ k) × (m
 abbrev μ-loop : tie.MeasureT-loop
 μ-loop n players seats bookings k stay₀ m₀ i₀ stay m i = k - i
 
-held-requires : tie.Need-held-requires Inv-loop μ-loop
-held-requires c κs = search needs
+at-most-requires : tie.Need-at-most-requires Inv-loop μ-loop
+at-most-requires c κs = search needs
 
 loop-holds : tie.Need-loop-holds Inv-loop μ-loop
 loop-holds c = (omega arith, omega arith, search (unmapped, needs), refl)
@@ -51,7 +51,7 @@ loop-again c =
       omega arith,
       omega arith,
       l .inv .2,
-      keep-skip-of (λ b. not (member (b .player) (take (s .seats) (s .players .now)))) (s .t1) (a .before .held .result) (l .stay) (l .m) (l .i) noBooking (omega arith) (l .inv .3) (omega arith) (rw t),
+      keep-skip-of (λ b. not (member (b .player) (take (s .seats) (s .players .now)))) (s .t1) (a .before .at-most .result) (l .stay) (l .m) (l .i) noBooking (omega arith) (l .inv .3) (omega arith) (rw t),
     )
 
 mul-stay : tie.Need-mul-stay Inv-loop μ-loop
@@ -79,7 +79,7 @@ loop-again-2 c =
       omega arith,
       omega arith,
       simp length-set (l .inv .2),
-      keep-on-of (λ b. not (member (b .player) (take (s .seats) (s .players .now)))) (s .t1) (a .before .held .result) (l .stay) (l .m) (l .i) noBooking (omega arith) (l .inv .3) (omega arith) (omega arith) (rw t),
+      keep-on-of (λ b. not (member (b .player) (take (s .seats) (s .players .now)))) (s .t1) (a .before .at-most .result) (l .stay) (l .m) (l .i) noBooking (omega arith) (l .inv .3) (omega arith) (omega arith) (rw t),
     )
 
 returns : tie.Need-returns Inv-loop μ-loop
@@ -88,7 +88,7 @@ returns c =
     let s = a .before .before .before .args in
     let l = a .loop in
     let w : length (s .t1) ≡ 64 = search (unmapped, needs) in
-    stayed (s .t1) (s .n) _ w (a .before .held .ensures) (take (s .seats) (s .players .now)) (l .stay) (l .m) (l .i) (l .inv .2) (omega arith) (omega arith) (omega arith) (l .inv .3)
+    stayed (s .t1) (s .n) _ w (a .before .at-most .ensures) (take (s .seats) (s .players .now)) (l .stay) (l .m) (l .i) (l .inv .2) (omega arith) (omega arith) (omega arith) (l .inv .3)
 
 pub without-seated-spec : {M : Type 1} → statement M
 without-seated-spec =
@@ -96,7 +96,7 @@ without-seated-spec =
     (tie.spec
     Inv-loop
     μ-loop
-    held-requires
+    at-most-requires
     loop-holds
     mul-booking
     array-copy-out-booking

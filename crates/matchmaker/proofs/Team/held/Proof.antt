@@ -1,25 +1,20 @@
--- `Team::held` meets its contract: a stated length over 8 holds all 8 places, another holds as many as it says.
-use mathlib.Core.Path.{_≡_, sym, _∙_}
+-- `Team::held` meets its contract: a stated length over 8 holds all 8 places, another as many as it says.
+use mathlib.Core.Path.{_≡_}
 use native.Mathlib.Omega.{arith}
-use lib.ListN.{length}
-use lib.Seq.{length-take-le}
-use Rattle.base.proofs.Arrays.{take-over}
+use lib.ListN.{length, length-take}
 use Rattle.base.proofs.Arrays.{unmapped}
 use borrow.Author.Needs.{needs}
 use Rattle.matchmaker.proofs.Team.held.Statement.{statement}
 use Rattle.matchmaker.proofs.Team.held.Tie as tie
 
+at-most-requires : tie.Need-at-most-requires
+at-most-requires c κs = search needs
+
 returns : tie.Need-returns
 returns c =
-    let t = c .before .before .args .self in
+    let t = c .before .args .self in
     let l : length (t .players) ≡ 8 = search (unmapped, needs) in
-    sym l ∙ take-over (t .len) (t .players) (omega arith)
-
-returns-2 : tie.Need-returns-2
-returns-2 c =
-    let t = c .before .before .args .self in
-    let l : length (t .players) ≡ 8 = search (unmapped, needs) in
-    sym (length-take-le (t .len) (t .players) (omega arith))
+    omega (arith, c .at-most .ensures, length-take (t .len) (t .players))
 
 pub held-spec : {M : Type 1} → statement M
-held-spec = tie.close (tie.spec returns returns-2)
+held-spec = tie.close (tie.spec at-most-requires returns)

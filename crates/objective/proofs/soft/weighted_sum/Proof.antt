@@ -20,8 +20,8 @@ Inv-loop count quality latency objectives n sum₀ i₀ sum i = (n ≤ 8) × (i 
 abbrev μ-loop : tie.MeasureT-loop
 μ-loop count quality latency objectives n sum₀ i₀ sum i = n - i
 
-held-requires : tie.Need-held-requires Inv-loop μ-loop
-held-requires c κs = search needs
+at-most-requires : tie.Need-at-most-requires Inv-loop μ-loop
+at-most-requires c κs = search needs
 
 loop-holds : tie.Need-loop-holds Inv-loop μ-loop
 loop-holds c = search needs
@@ -46,7 +46,7 @@ loop-again c =
     let a = c .before .before .before .before .before .args in
     let w : length (a .t1) ≡ 8 = search (unmapped, needs) in
     let l = c .before .before .before .loop in
-    let h = c .before .before .before .before .held in
+    let h = c .before .before .before .before .at-most in
     (omega arith, omega arith, fold-on-of (weighted (a .quality) (a .latency)) (Skill nan) (a .t1) (h .result) (l .i) (omega arith) (omega arith) (c .add-weighted .ensures) ∙ l .inv .2)
 
 returns : tie.Need-returns Inv-loop μ-loop
@@ -54,7 +54,7 @@ returns c =
     let a = c .before .before .before .args in
     let w : length (a .t1) ≡ 8 = search (unmapped, needs) in
     let l = c .before .loop in
-    let h = c .before .before .held in
+    let h = c .before .before .at-most in
     let f = weighted (a .quality) (a .latency) in
     sym (fold-end-of f (Skill nan) (a .t1) (h .result) (l .i) (omega arith) (l .sum) (omega arith) (omega arith))
     ∙ l .inv .2
@@ -67,7 +67,7 @@ weighted-sum-spec =
     (tie.spec
     Inv-loop
     μ-loop
-    held-requires
+    at-most-requires
     loop-holds
     mul-objective
     array-copy-out-objective

@@ -9,8 +9,8 @@ use Rattle.queue.specs.Queue.{joinedOver}
 use Rattle.queue.proofs.Queue.has_joined_over.Statement.{statement}
 use Rattle.queue.proofs.Queue.has_joined_over.Tie as tie
 
-held-requires : tie.Need-held-requires
-held-requires c κs = search needs
+at-most-requires : tie.Need-at-most-requires
+at-most-requires c κs = search needs
 
 any-joined-over-requires : tie.Need-any-joined-over-requires
 any-joined-over-requires c κs = search needs
@@ -18,8 +18,8 @@ any-joined-over-requires c κs = search needs
 returns : tie.Need-returns
 returns c =
     let q = c .before .before .before .args .self in
-    c .any-joined-over .ensures ∙ ap (λ (n : ℕ). any joinedOver (take n (q .entries))) (c .before .held .ensures)
+    c .any-joined-over .ensures ∙ ap (λ (n : ℕ). any joinedOver (take n (q .entries))) (c .before .at-most .ensures)
     ∙ ap (any joinedOver) (take-held (q .entries) (q .len) 64 (search (unmapped, needs)))
 
 pub has-joined-over-spec : {M : Type 1} → statement M
-has-joined-over-spec = tie.close (tie.spec held-requires any-joined-over-requires returns)
+has-joined-over-spec = tie.close (tie.spec at-most-requires any-joined-over-requires returns)

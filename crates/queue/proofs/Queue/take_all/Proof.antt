@@ -20,8 +20,8 @@ Inv-loop players entries n stay₀ gone₀ k₀ m₀ i₀ stay gone k m i = (i �
 abbrev μ-loop : tie.MeasureT-loop
 μ-loop players entries n stay₀ gone₀ k₀ m₀ i₀ stay gone k m i = n - i
 
-held-requires : tie.Need-held-requires Inv-loop μ-loop
-held-requires c κs = search needs
+at-most-requires : tie.Need-at-most-requires Inv-loop μ-loop
+at-most-requires c κs = search needs
 
 loop-holds : tie.Need-loop-holds Inv-loop μ-loop
 loop-holds c = (omega arith, omega arith, omega arith, search (unmapped, needs), search (unmapped, needs), refl, refl)
@@ -32,8 +32,8 @@ mul-e c = search needs
 array-copy-out-e : tie.Need-array-copy-out-e Inv-loop μ-loop
 array-copy-out-e c = search needs
 
-is-named-requires : tie.Need-is-named-requires Inv-loop μ-loop
-is-named-requires c κs = search needs
+is-among-requires : tie.Need-is-among-requires Inv-loop μ-loop
+is-among-requires c κs = search needs
 
 mul-gone : tie.Need-mul-gone Inv-loop μ-loop
 mul-gone c = search needs
@@ -56,15 +56,15 @@ loop-again c =
     let s = a .before .before .before .before .args in
     let q = s .self in
     let l : length (q .entries) ≡ 64 = search (unmapped, needs) in
-    let h : a .before .held .result ≤ 64 = omega arith in
-    let t = sym (c .before .is-named .ensures) ∙ c .if1 .taken in (
+    let h : a .before .at-most .result ≤ 64 = omega arith in
+    let t = sym (c .before .is-among .ensures) ∙ c .if1 .taken in (
       omega arith,
       omega arith,
       omega arith,
       a .loop .inv .3,
       simp length-set (a .loop .inv .4),
-      keep-skip-of (λ e. not (isOfAny (s .players .now) e)) (q .entries) (a .before .held .result) (a .loop .stay) (a .loop .k) (a .loop .i) noEntry (omega arith) (a .loop .inv .5) (omega arith) (rw t),
-      keep-on-of (isOfAny (s .players .now)) (q .entries) (a .before .held .result) (a .loop .gone) (a .loop .m) (a .loop .i) noEntry (omega arith) (a .loop .inv .6) (omega arith) (omega arith) t,
+      keep-skip-of (λ e. not (isOfAny (s .players .now) e)) (q .entries) (a .before .at-most .result) (a .loop .stay) (a .loop .k) (a .loop .i) noEntry (omega arith) (a .loop .inv .5) (omega arith) (rw t),
+      keep-on-of (isOfAny (s .players .now)) (q .entries) (a .before .at-most .result) (a .loop .gone) (a .loop .m) (a .loop .i) noEntry (omega arith) (a .loop .inv .6) (omega arith) (omega arith) t,
     )
 
 mul-stay : tie.Need-mul-stay Inv-loop μ-loop
@@ -88,15 +88,15 @@ loop-again-2 c =
     let s = a .before .before .before .before .args in
     let q = s .self in
     let l : length (q .entries) ≡ 64 = search (unmapped, needs) in
-    let h : a .before .held .result ≤ 64 = omega arith in
-    let t = sym (c .before .is-named .ensures) ∙ c .if1 .left in (
+    let h : a .before .at-most .result ≤ 64 = omega arith in
+    let t = sym (c .before .is-among .ensures) ∙ c .if1 .left in (
       omega arith,
       omega arith,
       omega arith,
       simp length-set (a .loop .inv .3),
       a .loop .inv .4,
-      keep-on-of (λ e. not (isOfAny (s .players .now) e)) (q .entries) (a .before .held .result) (a .loop .stay) (a .loop .k) (a .loop .i) noEntry (omega arith) (a .loop .inv .5) (omega arith) (omega arith) (rw t),
-      keep-skip-of (isOfAny (s .players .now)) (q .entries) (a .before .held .result) (a .loop .gone) (a .loop .m) (a .loop .i) noEntry (omega arith) (a .loop .inv .6) (omega arith) t,
+      keep-on-of (λ e. not (isOfAny (s .players .now) e)) (q .entries) (a .before .at-most .result) (a .loop .stay) (a .loop .k) (a .loop .i) noEntry (omega arith) (a .loop .inv .5) (omega arith) (omega arith) (rw t),
+      keep-skip-of (isOfAny (s .players .now)) (q .entries) (a .before .at-most .result) (a .loop .gone) (a .loop .m) (a .loop .i) noEntry (omega arith) (a .loop .inv .6) (omega arith) t,
     )
 
 returns : tie.Need-returns Inv-loop μ-loop
@@ -105,8 +105,8 @@ returns c =
     let s = a .before .before .before .before .args in
     let q = s .self in
     let l : length (q .entries) ≡ 64 = search (unmapped, needs) in
-    let h : a .before .held .result ≤ 64 = omega arith in
-    parted (s .players .now) (q .entries) (q .len) (a .before .held .result) l (a .before .held .ensures) (a .loop .stay) (a .loop .gone) (a .loop .k) (a .loop .m) (a .loop .i) (a .loop .inv .3) (a .loop .inv .4) (omega arith) (omega arith) (omega arith) (omega arith) (a .loop .inv .5) (a .loop .inv .6)
+    let h : a .before .at-most .result ≤ 64 = omega arith in
+    parted (s .players .now) (q .entries) (q .len) (a .before .at-most .result) l (a .before .at-most .ensures) (a .loop .stay) (a .loop .gone) (a .loop .k) (a .loop .m) (a .loop .i) (a .loop .inv .3) (a .loop .inv .4) (omega arith) (omega arith) (omega arith) (omega arith) (a .loop .inv .5) (a .loop .inv .6)
 
 pub take-all-spec : {M : Type 1} → statement M
 take-all-spec =
@@ -114,11 +114,11 @@ take-all-spec =
     (tie.spec
     Inv-loop
     μ-loop
-    held-requires
+    at-most-requires
     loop-holds
     mul-e
     array-copy-out-e
-    is-named-requires
+    is-among-requires
     mul-gone
     array-set-from-gone
     add-m

@@ -5,8 +5,8 @@ use Rattle.queue.proofs.Laws.{took-nobody, took-entry}
 use Rattle.queue.proofs.Queue.take_first.Statement.{statement}
 use Rattle.queue.proofs.Queue.take_first.Tie as tie
 
-held-requires : tie.Need-held-requires
-held-requires c κs = search needs
+at-most-requires : tie.Need-at-most-requires
+at-most-requires c κs = search needs
 
 place-of-requires : tie.Need-place-of-requires
 place-of-requires c κs = search needs
@@ -14,7 +14,7 @@ place-of-requires c κs = search needs
 returns : tie.Need-returns
 returns c =
     let q = c .before .before .before .before .args .self in
-    took-nobody (q .entries) (q .len) _ _ _ (search (unmapped, needs)) (c .before .before .held .ensures) (c .before .place-of .ensures) (c .if1 .taken)
+    took-nobody (q .entries) (q .len) _ _ _ (search (unmapped, needs)) (c .before .before .at-most .ensures) (c .before .place-of .ensures) (c .if1 .taken)
 
 mul-entry : tie.Need-mul-entry
 mul-entry c = search needs
@@ -28,13 +28,13 @@ closed-up-requires c κs = search needs
 returns-2 : tie.Need-returns-2
 returns-2 c =
     let q = c .before .before .before .before .before .before .args .self in
-    took-entry (q .entries) (q .len) _ _ _ (search (unmapped, needs)) (c .before .before .before .before .held .ensures) (c .before .before .before .place-of .ensures) _ (c .before .before .if1 .left) (c .closed-up .ensures)
+    took-entry (q .entries) (q .len) _ _ _ (search (unmapped, needs)) (c .before .before .before .before .at-most .ensures) (c .before .before .before .place-of .ensures) _ (c .before .before .if1 .left) (c .closed-up .ensures)
 
 pub take-first-spec : {M : Type 1} → statement M
 take-first-spec =
     tie.close
     (tie.spec
-    held-requires
+    at-most-requires
     place-of-requires
     returns
     mul-entry
