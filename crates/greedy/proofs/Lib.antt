@@ -9,6 +9,7 @@ pub mod Papers
 pub mod Runs
 pub mod Plain
 pub mod Seats
+pub mod Columns
 pub mod Until
 pub mod Drawn
 pub mod LongerWait

@@ -2,7 +2,7 @@
 use Prim.Native.Nat.{ℕ, zero, suc, _≤_, _<_}
 use mathlib.Core.Path.{_≡_, refl, sym, ap, _∙_, subst}
 use mathlib.Core.Bool.{Bool, true, false, not, cond}
-use mathlib.Core.List.{List, [], _∷_, _++_, map, foldl, map-map, foldl-map, head-eq-of-cons-eq, tail-eq-of-cons-eq}
+use mathlib.Core.List.{List, [], _∷_, _++_, map, foldl, foldl-map, head-eq-of-cons-eq, tail-eq-of-cons-eq}
 use mathlib.Core.Option.{Option, none, some}
 use native.Mathlib.Omega.{arith}
 use native.Mathlib.Nat.{le-of-suc-le-suc, not-suc-le-zero}
@@ -230,11 +230,10 @@ module _ (s : TeamComposition) (r : Roster) (queue row : List QueueEntry) (alike
 -- the matches of the code's greedy search, over the columns of a row from which document 01's picks are the queue's, with each of the
 -- queue's anchors at its place in the row, are the queue's
 pub greedy-plain : (s : TeamComposition) (r : Roster) (queue row : List QueueEntry) → ((reference : Float) (used : List ℕ) → nearest reference used queue ≡ nearestByPlace reference used row) →
-    (players turns : List ℕ) (ratings rostered : List Float) (n : ℕ) → n ≡ length queue → n ≡ length row → n ≤ 64 → take n players ≡ map (λ e. e .player) row → take n ratings ≡ map (λ e. e .rating) row → take n rostered ≡ map (rosterRating r) (take n players) →
+    (players turns : List ℕ) (ratings rostered : List Float) (n : ℕ) → n ≡ length queue → n ≡ length row → n ≤ 64 → take n players ≡ map (λ e. e .player) row → take n ratings ≡ map (λ e. e .rating) row → take n rostered ≡ map (λ e. rosterRating r (e .player)) row →
     ((i : ℕ) → i < n → (getD turns i 0 < n) × (getD row (getD turns i 0) noEntry ≡ getD queue i noEntry)) →
     running s (columns players ratings rostered) turns n unmarked .matches ≡ greedyMatches s r queue
 greedy-plain s r queue row alike players turns ratings rostered n whole all fits named rated placed at =
-    let p : take n rostered ≡ map (λ e. rosterRating r (e .player)) row = placed ∙ ap (map (rosterRating r)) named ∙ map-map (rosterRating r) (λ e. e .player) row in
-    let a = anchors-alike s r queue row alike players ratings rostered n all named rated p turns whole fits at n (omega arith) in
+    let a = anchors-alike s r queue row alike players ratings rostered n all named rated placed turns whole fits at n (omega arith) in
     let e : take n queue ≡ queue = ap (λ (k : ℕ). take k queue) whole ∙ take-length queue in
     a .formed ∙ ap (λ (q : List QueueEntry). foldl (anchored s r queue) begun q .matches) e

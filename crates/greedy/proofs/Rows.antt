@@ -44,12 +44,6 @@ module _ (queue : List QueueEntry) where
   pub length-joining : length (byJoining queue) ≡ length queue
   length-joining = sym (permuted-length (sort-permutes (λ x y. ltb (x .joined) (y .joined)) queue))
 
-  -- the places of the order are places of the queue
-  pub joining-below : All (λ p. p < length queue) (placesByTime (joinedBy queue))
-  joining-below =
-      let many : length (joinedBy queue) ≡ length queue = length-map queue (λ (e : QueueEntry). e .joined) in
-      all-permuted (λ p. p < length queue) (sort-permutes (earlierAt (joinedBy queue)) (placesFrom 0 (length (joinedBy queue)))) (places-below 0 (length (joinedBy queue)) (length queue) (omega arith))
-
 -- what a column of the queue has at some places is what the entries there have
 column-arranged : (queue : List QueueEntry) {A : Type 0} (f : QueueEntry → A) (d : A) (column : List A) (n : ℕ) → n ≡ length queue → take n column ≡ map f queue → (ps : List ℕ) → All (λ p. p < n) ps → map (λ p. getD column p d) ps ≡ map f (map (entryAt queue) ps)
 column-arranged queue f d column n all e [] a = refl
@@ -58,7 +52,18 @@ column-arranged queue f d column n all e (p ∷ ps) a =
     let t = column-arranged queue f d column n all e ps (a .1) in
     λ j. h j ∷ t j
 
--- a queue, its joined times, and their order as it is found: places, and where each stands
+-- n times and their order as it is found: places, and where each stands
+module _ (n : ℕ) (times places stands : List ℕ) (many : length (take n times) ≡ n) (ordered : take n places ≡ placesByTime (take n times)) (below : All (λ p. p < length (take n times)) (take n stands)) where
+  -- places and stands are below n
+  pub places-fit : All (λ p. p < n) (take n places)
+  places-fit =
+      let ts = take n times in
+      rw ordered (all-permuted (λ p. p < n) (sort-permutes (earlierAt ts) (placesFrom 0 (length ts))) (places-below 0 (length ts) n (omega arith)))
+
+  pub stands-fit : All (λ p. p < n) (take n stands)
+  stands-fit = rw many at below
+
+-- a queue, its joined times, and their order as it is found
 module _ (queue : List QueueEntry) (n : ℕ) (times places stands : List ℕ) (all : n ≡ length queue) (timed : take n times ≡ joinedBy queue) (room : n ≤ length places) (space : n ≤ length stands)
     (ordered : take n places ≡ placesByTime (take n times)) (found : map (λ p. getD places p 0) (take n stands) ≡ placesFrom 0 (length (take n times))) (below : All (λ p. p < length (take n times)) (take n stands)) where
   many : length (take n times) ≡ n
@@ -67,20 +72,13 @@ module _ (queue : List QueueEntry) (n : ℕ) (times places stands : List ℕ) (a
   order : take n places ≡ placesByTime (joinedBy queue)
   order = ordered ∙ ap placesByTime timed
 
-  -- places and stands are below n
-  pub places-fit : All (λ p. p < n) (take n places)
-  places-fit = rw (order, all) (joining-below queue)
-
-  pub stands-fit : All (λ p. p < n) (take n stands)
-  stands-fit = rw many at below
-
   -- the entries at the places are the queue in order of joining
   pub row-joining : map (entryAt queue) (take n places) ≡ byJoining queue
   row-joining = ap (map (entryAt queue)) order ∙ joining-at queue
 
   -- a column of the queue, put in the order of the places, is the column of the queue in order of joining
   pub column-joining : {A : Type 0} (f : QueueEntry → A) (d : A) (column : List A) → take n column ≡ map f queue → map (λ p. getD column p d) (take n places) ≡ map f (byJoining queue)
-  column-joining f d column e = column-arranged queue f d column n all e (take n places) places-fit ∙ ap (map f) row-joining
+  column-joining f d column e = column-arranged queue f d column n all e (take n places) (places-fit n times places stands many ordered below) ∙ ap (map f) row-joining
 
   -- where an entry stands in the order is its place
   found-at : (i : ℕ) → i < n → getD places (getD stands i 0) 0 ≡ i
@@ -95,7 +93,7 @@ module _ (queue : List QueueEntry) (n : ℕ) (times places stands : List ℕ) (a
   -- so there stands the entry
   pub turn-at : (i : ℕ) → i < n → (getD stands i 0 < n) × (getD (byJoining queue) (getD stands i 0) noEntry ≡ getD queue i noEntry)
   turn-at i h =
-      let k : getD stands i 0 < n = place-below n stands n i space h stands-fit in
+      let k : getD stands i 0 < n = place-below n stands n i space h (stands-fit n times places stands many ordered below) in
       let l : length (byJoining queue) ≡ n = length-joining queue ∙ sym all in
       let e : take n (byJoining queue) ≡ map (entryAt queue) (take n places) = ap (λ (m : ℕ). take m (byJoining queue)) (sym l) ∙ take-length (byJoining queue) ∙ sym row-joining in (
         k,

@@ -1,7 +1,8 @@
 -- Greedy search as the code goes: used marks by place, columns that were read once, running sums. No public contract cites this.
 use Prim.Native.Nat.{ℕ, zero, suc, _+_, _-_, min}
+use mathlib.Core.Path.{_≡_}
 use mathlib.Core.Bool.{Bool, true, false, cond}
-use mathlib.Core.List.{List, [], _∷_, _++_}
+use mathlib.Core.List.{List, [], _∷_, _++_, map}
 use lib.Dec.{leb, eqb}
 use lib.Ieee.{Float, nan, inf, binary64, add, sub, neg, lt}
 use lib.ListN.{length, take, drop, getD, set, replicate}
@@ -16,7 +17,7 @@ use Rattle.seating.specs.declared.TeamComposition.{TeamComposition}
 use Rattle.seating.specs.Seating.{Sheets, HandedOut, handedOut}
 use Rattle.seating.specs.Steps.{overlaid}
 use Rattle.seating.specs.Turns.{alone, seatsLeft, takesA, grown, complete}
-use Rattle.greedy.specs.Greedy.{distance, greedyMatches}
+use Rattle.greedy.specs.Greedy.{distance, rosterRating, greedyMatches}
 use Rattle.greedy.specs.declared.Filling.{Filling}
 use Rattle.greedy.specs.declared.Nearest.{Nearest}
 use Rattle.greedy.specs.declared.Written.{Written}
@@ -29,6 +30,14 @@ pub record Columns : Type 0 where
 
 abbrev pub columns : List ℕ → List Float → List Float → Columns
 columns players ratings rostered = record { players = players; ratings = ratings; rostered = rostered }
+
+-- the first n places of these columns have the player, the rating, the roster's rating and the joined time of each entry of the queue
+pub record FromQueue (r : Roster) (queue : List QueueEntry) (n : ℕ) (players : List ℕ) (ratings rostered : List Float) (joined : List ℕ) : Type 0 where
+  pub whole : n ≡ length queue
+  pub named : take n players ≡ map (λ e. e .player) queue
+  pub rated : take n ratings ≡ map (λ e. e .rating) queue
+  pub known : take n rostered ≡ map (λ e. rosterRating r (e .player)) queue
+  pub timed : take n joined ≡ map (λ e. e .joined) queue
 
 -- the nearest so far: its place and its distance
 pub record Near : Type 0 where

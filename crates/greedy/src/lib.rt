@@ -1,18 +1,19 @@
 // GreedySearch of search.rs: an anchor opens a match, and every seat goes to the nearest player who is left.
 ghost use mathlib.Core.Path.{_≡_};
-ghost use mathlib.Core.List.{map};
+ghost use mathlib.Core.List.{List, map};
 ghost use Prim.Native.Nat.{_+_, _-_, _≤_, _<_, min};
 ghost use lib.Ieee.{nan};
 ghost use lib.ListN.{length, take, getD};
-ghost use Rattle.base.specs.Lists.{All};
+ghost use Rattle.base.specs.Lists.{All, placesFrom};
+ghost use Rattle.queue.specs.declared.QueueEntry.{QueueEntry};
 ghost use Rattle.queue.specs.Queue.{queueOf};
 ghost use Rattle.roster.specs.Roster.{ofRatings};
 ghost use Rattle.seating.specs.Seating.{leaving};
 ghost use Rattle.seating.specs.Steps.{RatedOut};
 ghost use Rattle.seating.specs.Turns.{seatsLeft};
 ghost use Rattle.matchmaker.specs.Quality.{matchOf};
-ghost use Rattle.greedy.specs.Greedy.{greedyRule};
-ghost use Rattle.greedy.specs.Steps.{columns, magnitudeOf, nearOf, nearerFree, nearerOf, nearestFree, struck, marked, freeOf, fillOf, opening, picking, filling, running, unmarked, paperOf, forming, handing};
+ghost use Rattle.greedy.specs.Greedy.{greedyMatches, greedyRule};
+ghost use Rattle.greedy.specs.Steps.{columns, magnitudeOf, nearOf, nearerFree, nearerOf, nearestFree, struck, marked, freeOf, fillOf, opening, picking, filling, running, unmarked, FromQueue, paperOf, forming, handing};
 use base::Checked;
 use base::Refusal;
 use matchmaker::ProposedMatch;
@@ -357,8 +358,62 @@ fn match_all(
     written.count
 }
 
-// The matches of the queue on the sheets, or refusal 4. In order of joining the earlier place of equal distances is the earlier joined
-// time, so picks are made there; the anchors keep the queue's order.
+// Every place, as they come.
+fn as_they_come() -> [usize; 64]
+    ensures { λ r. ⌜ r ≡ placesFrom 0 64 ⌝ }
+{
+    let mut row = [0; 64];
+    let mut i: usize = 0;
+    while i < 64 {
+        row[i] = i;
+        i += 1;
+    }
+    row
+}
+
+// The matches of a queue whose columns these are, picked in order of joining: there the earlier place of equal distances is the
+// earlier joined time. The anchors keep the queue's order.
+fn match_by_joining(
+    sizes: TeamComposition,
+    players: &[u64; 64],
+    entered: &[f64; 64],
+    rostered: &[f64; 64],
+    joined: [u64; 64],
+    n: usize,
+    ids: &[u64],
+    ratings: &[f64],
+    seats: &mut [u64],
+    qualities: &mut [f64],
+) -> usize
+    requires { ⌜ (sizes .a ≤ 8) × ((sizes .b ≤ 8) × (n ≤ 64)) ⌝ }
+    requires { ⌜ length (now players) ≡ 64 ⌝ }
+    requires { ⌜ length (now entered) ≡ 64 ⌝ }
+    requires { ⌜ length (now rostered) ≡ 64 ⌝ }
+    requires { ⌜ n ≤ length (now qualities) ⌝ }
+    ensures { λ r. ⌜ ((queue : List QueueEntry) → FromQueue (ofRatings (now (ids .entry)) (now (ratings .entry))) queue n (now (players .entry)) (now (entered .entry)) (now (rostered .entry)) joined → RatedOut (ofRatings (now (ids .entry)) (now (ratings .entry))) (greedyMatches sizes (ofRatings (now (ids .entry)) (now (ratings .entry))) queue) (now (seats .entry)) (now (qualities .entry)) r (now (seats .exit)) (now (qualities .exit))) ⌝ }
+{
+    let order = ranking::times::by_time(joined, n);
+    let mut named = [0; 64];
+    arrange_players(players, &order.places, n, &mut named);
+    let mut rated = [0.0; 64];
+    arrange_ratings(entered, &order.places, n, &mut rated);
+    let mut known = [0.0; 64];
+    arrange_ratings(rostered, &order.places, n, &mut known);
+    match_all(
+        sizes,
+        &named,
+        &rated,
+        &known,
+        &order.stands,
+        n,
+        ids,
+        ratings,
+        seats,
+        qualities,
+    )
+}
+
+// The matches of the queue on the sheets, or refusal 4. A queue that stands in order of joining is searched as it stands.
 fn matches(
     sizes: TeamComposition,
     queue: Queue,
@@ -373,26 +428,36 @@ fn matches(
     ensures { λ r. ⌜ leaving r (now (seats .exit)) (now (qualities .exit)) ≡ handing sizes (ofRatings (now (ids .entry)) (now (ratings .entry))) (queueOf queue .entries) (record { players = now (seats .entry); qualities = now (qualities .entry) }) ⌝ }
 {
     let n = queue.len;
-    let mut column = [0; 64];
+    let mut players = [0; 64];
     let mut entered = [0.0; 64];
     let mut joined = [0; 64];
-    read(queue, &mut column, &mut entered, &mut joined);
+    read(queue, &mut players, &mut entered, &mut joined);
     if queue::time::any_over(&joined[..n]) {
         return Formed::Refused(Refusal::Clock);
     }
-    let order = ranking::times::by_time(joined, n);
-    let mut players = [0; 64];
-    arrange_players(&column, &order.places, n, &mut players);
-    let mut row = [0.0; 64];
-    arrange_ratings(&entered, &order.places, n, &mut row);
     let mut rostered = [0.0; 64];
     roster::places::write_values(ids, ratings, &players[..n], &mut rostered);
-    Formed::Count(match_all(
+    if ranking::times::never_falls(&joined[..n]) {
+        let turns = as_they_come();
+        return Formed::Count(match_all(
+            sizes,
+            &players,
+            &entered,
+            &rostered,
+            &turns,
+            n,
+            ids,
+            ratings,
+            seats,
+            qualities,
+        ));
+    }
+    Formed::Count(match_by_joining(
         sizes,
         &players,
-        &row,
+        &entered,
         &rostered,
-        &order.stands,
+        joined,
         n,
         ids,
         ratings,
