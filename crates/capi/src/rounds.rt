@@ -11,7 +11,7 @@ ghost use Rattle.capi.specs.FullRounds.{ChoiceNumbers, choiceNumbers};
 use crate::rules::Constraints;
 use crate::scores::SoftObjectives;
 use choice::Choice;
-use choice::Verdict;
+use choice::Decision;
 use matchmaker::ProposedMatch;
 use queue::Queue;
 use seating::TeamComposition;
@@ -44,11 +44,11 @@ fn in_numbers(choice: Choice) -> Chosen
 {
     let teams = choice.teams;
     let tried = choice.tried;
-    let verdict = choice.verdict;
-    match verdict {
-        Verdict::Refused(refusal) => unfound(0, refusal.number()),
-        Verdict::Nothing => unfound(tried, 0),
-        Verdict::Chosen => Chosen {
+    let decision = choice.decision;
+    match decision {
+        Decision::Refused(refusal) => unfound(0, refusal.number()),
+        Decision::Nothing => unfound(tried, 0),
+        Decision::Chosen => Chosen {
             teams: teams,
             tried: tried,
             found: true,

@@ -19,8 +19,8 @@ use Rattle.seating.specs.Seating.{seatsOf, lineup}
 use Rattle.seating.specs.Steps.{Scored}
 use Rattle.candidate.specs.Walks.{through}
 use Rattle.choice.specs.declared.Choice.{Choice}
-use Rattle.choice.specs.declared.Verdict.{Verdict}
-use Rattle.choice.specs.declared.Verdict.the-variants as Verdict
+use Rattle.choice.specs.declared.Decision.{Decision}
+use Rattle.choice.specs.declared.Decision.the-variants as Decision
 use Rattle.choice.specs.Full.{Terms, Selection, chosen, choiceBy, ChoiceParts}
 use Rattle.choice.specs.Steps.{SoFar, orBetter, unweighed, passed, skipped, weighed, concluding}
 use Rattle.choice.proofs.Weighing.{best-plain}
@@ -82,20 +82,20 @@ module _ (c : Choice) where
   parts-by e h = subst (λ (q : Outcome Selection). ChoiceParts q c) e h
 
   -- nobody is chosen, and nothing tried, for a refusal
-  pub parts-refused : (x : Refusal) → c .verdict ≡ Verdict.Refused x → matchOf (c .teams) ≡ lineup [] [] → c .tried ≡ 0 → ChoiceParts (refused (refusalNumber x)) c
-  parts-refused x v m t = record { outcome = ap (λ (w : Verdict). choiceBy w (matchOf (c .teams)) (c .tried)) v; teams = m; tried = t }
+  pub parts-refused : (x : Refusal) → c .decision ≡ Decision.Refused x → matchOf (c .teams) ≡ lineup [] [] → c .tried ≡ 0 → ChoiceParts (refused (refusalNumber x)) c
+  parts-refused x v m t = record { outcome = ap (λ (w : Decision). choiceBy w (matchOf (c .teams)) (c .tried)) v; teams = m; tried = t }
 
   -- nobody is chosen, since none passes
-  pub parts-nothing : (n : ℕ) → c .verdict ≡ Verdict.Nothing → matchOf (c .teams) ≡ lineup [] [] → c .tried ≡ n → ChoiceParts (gives (record { best = none; tried = n })) c
+  pub parts-nothing : (n : ℕ) → c .decision ≡ Decision.Nothing → matchOf (c .teams) ≡ lineup [] [] → c .tried ≡ n → ChoiceParts (gives (record { best = none; tried = n })) c
   parts-nothing n v m t =
       record {
-        outcome = ap (λ (w : Verdict). choiceBy w (matchOf (c .teams)) (c .tried)) v ∙ ap (λ (k : ℕ). gives (record { best = none; tried = k })) t;
+        outcome = ap (λ (w : Decision). choiceBy w (matchOf (c .teams)) (c .tried)) v ∙ ap (λ (k : ℕ). gives (record { best = none; tried = k })) t;
         teams = m;
         tried = t;
       }
 
 -- a match is chosen
-pub parts-chosen : (m : ProposedMatch) (n : ℕ) → ChoiceParts (gives (record { best = some (matchOf m); tried = n })) (record { verdict = Verdict.Chosen; teams = m; tried = n })
+pub parts-chosen : (m : ProposedMatch) (n : ℕ) → ChoiceParts (gives (record { best = some (matchOf m); tried = n })) (record { decision = Decision.Chosen; teams = m; tried = n })
 parts-chosen m n = record { outcome = refl; teams = refl; tried = refl }
 
 -- ---- best_choice

@@ -42,7 +42,8 @@ pub struct Best {
     pub tried: u64,
 }
 
-pub enum Verdict {
+// What comes of it: a refusal, nothing that passes, or a match.
+pub enum Decision {
     Refused(Refusal),
     Nothing,
     Chosen,
@@ -58,7 +59,7 @@ pub struct Sums {
 // The match where one is chosen, else nobody, and how many choices were tried, 0 where it is refused. What stands in a team's array
 // behind its players counts for nothing.
 pub struct Choice {
-    pub verdict: Verdict,
+    pub decision: Decision,
     pub teams: ProposedMatch,
     pub tried: u64,
 }
@@ -470,12 +471,12 @@ fn walk(
 }
 
 // Nobody is chosen, for this reason.
-fn unchosen(verdict: Verdict, tried: u64) -> Choice
-    ensures { λ r. ⌜ (r .verdict ≡ verdict) × ((matchOf (r .teams) ≡ lineup [] []) × (r .tried ≡ tried)) ⌝ }
+fn unchosen(decision: Decision, tried: u64) -> Choice
+    ensures { λ r. ⌜ (r .decision ≡ decision) × ((matchOf (r .teams) ≡ lineup [] []) × (r .tried ≡ tried)) ⌝ }
 {
     let none = seating::nobody();
     Choice {
-        verdict: verdict,
+        decision: decision,
         teams: none,
         tried: tried,
     }
@@ -485,7 +486,7 @@ fn unchosen(verdict: Verdict, tried: u64) -> Choice
 fn refuse(refusal: Refusal) -> Choice
     ensures { λ r. ⌜ ChoiceParts (refused (refusalNumber refusal)) r ⌝ }
 {
-    unchosen(Verdict::Refused(refusal), 0)
+    unchosen(Decision::Refused(refusal), 0)
 }
 
 // Nothing tried yet.
@@ -524,12 +525,12 @@ fn concluded(best: Best) -> Choice
     }
     if best.found {
         return Choice {
-            verdict: Verdict::Chosen,
+            decision: Decision::Chosen,
             teams: teams,
             tried: tried,
         };
     }
-    unchosen(Verdict::Nothing, tried)
+    unchosen(Decision::Nothing, tried)
 }
 
 // Refusals 1 and 2 of what a full round brings.

@@ -15,7 +15,7 @@ use base::Checked;
 use base::Refusal;
 use beam::BeamSearch;
 use choice::Choice;
-use choice::Verdict;
+use choice::Decision;
 use constraint::Constraints;
 use greedy::GreedySearch;
 use objective::score::MatchObjective;
@@ -181,18 +181,18 @@ fn choice_handed(choice: Choice, players: &mut [u64], qualities: &mut [f64]) -> 
     requires { ⌜ (16 ≤ length (now players)) × (1 ≤ length (now qualities)) ⌝ }
     ensures { λ r. ⌜ HandedNumbers (λ m. Floats.zero) (record { players = now (players .entry); qualities = now (qualities .entry) }) (selected (choiceOf choice)) r (now (players .exit)) (now (qualities .exit)) ⌝ }
 {
-    let verdict = choice.verdict;
+    let decision = choice.decision;
     let teams = choice.teams;
     let tried = choice.tried;
-    match verdict {
-        Verdict::Refused(refusal) => refuses(refusal),
-        Verdict::Nothing => Handed {
+    match decision {
+        Decision::Refused(refusal) => refuses(refusal),
+        Decision::Nothing => Handed {
             count: 0,
             seats: 0,
             tried: tried,
             refusal: 0,
         },
-        Verdict::Chosen => {
+        Decision::Chosen => {
             let places = teams.seats();
             seating::write_match(teams, players);
             qualities[0] = 0.0;

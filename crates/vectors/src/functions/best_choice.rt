@@ -8,7 +8,7 @@ use crate::sheets;
 use crate::teams;
 use crate::words;
 use choice::Choice;
-use choice::Verdict;
+use choice::Decision;
 use constraint::Constraints;
 use matchmaker::ProposedMatch;
 use objectives::ReadObjectives;
@@ -113,11 +113,11 @@ fn after_columns(
 fn expect(text: &[u8], from: Cursor, given: Choice) -> Cursor {
     let tried = given.tried;
     let teams = given.teams;
-    let verdict = given.verdict;
-    match verdict {
-        Verdict::Refused(refusal) => expect_nothing(text, from, refusals::number(refusal), tried),
-        Verdict::Nothing => expect_nothing(text, from, 0, tried),
-        Verdict::Chosen => expect_chosen(text, from, teams, tried),
+    let decision = given.decision;
+    match decision {
+        Decision::Refused(refusal) => expect_nothing(text, from, refusals::number(refusal), tried),
+        Decision::Nothing => expect_nothing(text, from, 0, tried),
+        Decision::Chosen => expect_chosen(text, from, teams, tried),
     }
 }
 

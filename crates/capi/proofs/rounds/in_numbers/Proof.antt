@@ -5,8 +5,8 @@ use borrow.Author.Needs.{needs}
 use Rattle.capi.proofs.rounds.in_numbers.Statement.{statement}
 use Rattle.capi.proofs.rounds.in_numbers.Tie as tie
 
-enum-known-verdict : tie.Need-enum-known-verdict
-enum-known-verdict c = search needs
+enum-known-decision : tie.Need-enum-known-decision
+enum-known-decision c = search needs
 
 number-requires : tie.Need-number-requires
 number-requires c κs = search needs
@@ -26,7 +26,7 @@ enum-told-2 c = search needs
 returns : tie.Need-returns
 returns c =
     let e = c .unfound .ensures in
-    choice-refused _ _ (c .before .before .before .verdict .given .1) (e .0) (e .1 .0) (e .1 .1 .0) (e .1 .1 .1 ∙ c .before .number .ensures)
+    choice-refused _ _ (c .before .before .before .decision .given .1) (e .0) (e .1 .0) (e .1 .1 .0) (e .1 .1 .1 ∙ c .before .number .ensures)
 
 returns-2 : tie.Need-returns-2
 returns-2 c =
@@ -40,7 +40,7 @@ pub in-numbers-spec : {M : Type 1} → statement M
 in-numbers-spec =
     tie.close
     (tie.spec
-    enum-known-verdict
+    enum-known-decision
     number-requires
     unfound-requires
     enum-told

@@ -8,13 +8,13 @@ use Rattle.base.proofs.Arrays.{unmapped}
 use Rattle.matchmaker.specs.Quality.{matchOf}
 use Rattle.seating.specs.Seating.{Sheets}
 use Rattle.choice.specs.Full.{Selection, choiceBy}
-use Rattle.choice.specs.declared.Verdict.{Verdict}
+use Rattle.choice.specs.declared.Decision.{Decision}
 use Rattle.hall.proofs.ChoiceRounds.{choice-refused, choice-none, choice-given, seated-most}
 use Rattle.hall.proofs.rounds.choice_handed.Statement.{statement}
 use Rattle.hall.proofs.rounds.choice_handed.Tie as tie
 
-enum-known-verdict : tie.Need-enum-known-verdict
-enum-known-verdict c = search needs
+enum-known-decision : tie.Need-enum-known-decision
+enum-known-decision c = search needs
 
 refuses-requires : tie.Need-refuses-requires
 refuses-requires c κs = search needs
@@ -39,15 +39,15 @@ returns c =
     let a = c .before .before .before .before .before .before .before .args in
     let sheets : Sheets = record { players = a .players .now; qualities = a .qualities .now } in
     let m = matchOf (a .choice .teams) in
-    let by : Verdict → Outcome Selection = λ v. choiceBy v m (a .choice .tried) in
-    choice-refused sheets (c .before .before .verdict .given .0 .0) (ap by (c .before .before .verdict .given .1)) (c .refuses .ensures)
+    let by : Decision → Outcome Selection = λ v. choiceBy v m (a .choice .tried) in
+    choice-refused sheets (c .before .before .decision .given .0 .0) (ap by (c .before .before .decision .given .1)) (c .refuses .ensures)
 
 returns-2 : tie.Need-returns-2
 returns-2 c =
     let a = c .before .before .before .before .before .args in
     let sheets : Sheets = record { players = a .players .now; qualities = a .qualities .now } in
     let m = matchOf (a .choice .teams) in
-    let by : Verdict → Outcome Selection = λ v. choiceBy v m (a .choice .tried) in
+    let by : Decision → Outcome Selection = λ v. choiceBy v m (a .choice .tried) in
     choice-none sheets (ap by (c .enum-told .given .1))
 
 same-length : tie.Need-same-length
@@ -62,7 +62,7 @@ returns-3 c =
     let sheets : Sheets = record { players = a .players .now; qualities = a .qualities .now } in
     let t = a .choice .teams in
     let m = matchOf t in
-    let by : Verdict → Outcome Selection = λ v. choiceBy v m (a .choice .tried) in
+    let by : Decision → Outcome Selection = λ v. choiceBy v m (a .choice .tried) in
     let u : length (t .a .players) ≡ 8 = search (unmapped, needs) in
     let v : length (t .b .players) ≡ 8 = search (unmapped, needs) in
     let most = seated-most (t .a .players) (t .b .players) (t .a .len) (t .b .len) u v in
@@ -73,7 +73,7 @@ pub choice-handed-spec : {M : Type 1} → statement M
 choice-handed-spec =
     tie.close
     (tie.spec
-    enum-known-verdict
+    enum-known-decision
     refuses-requires
     enum-told
     enum-told-2
