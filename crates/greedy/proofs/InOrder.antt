@@ -1,17 +1,13 @@
 -- Where joined times never fall the greedy pick is document 01's: of equal distances the earlier place.
-use Prim.Native.Nat.{ℕ, _+_, _≤_, _<_}
-use mathlib.Core.Path.{_≡_, refl, sym, ap, _∙_}
+use Prim.Native.Nat.{ℕ, _≤_}
+use mathlib.Core.Path.{_≡_, refl}
 use mathlib.Core.Bool.{Bool, true, false, not}
-use mathlib.Core.List.{List, [], _∷_, _++_, map, foldl}
+use mathlib.Core.List.{List, [], _∷_, map, foldl}
 use mathlib.Core.Option.{Option, none, some}
 use native.Mathlib.Omega.{arith}
 use borrow.Author.Tests.{le-ltb}
 use lib.Ieee.{Float, inf, lt}
-use lib.ListN.{length, take, set}
-use lib.Seq.{take-length}
-use Rattle.base.specs.Lists.{keep, placesFrom}
-use Rattle.base.proofs.Arrays.{push}
-use Rattle.base.proofs.Places.{places-on}
+use Rattle.base.specs.Lists.{keep}
 use Rattle.base.proofs.Cases.{cases}
 use Rattle.ranking.specs.Times.{risingFrom, neverFall}
 use Rattle.queue.specs.declared.QueueEntry.{QueueEntry}
@@ -77,15 +73,3 @@ module _ (reference : Float) where
 
 pub in-order : (queue : List QueueEntry) → neverFall (joinedBy queue) ≡ true → (reference : Float) (used : List ℕ) → nearest reference used queue ≡ nearestByPlace reference used queue
 in-order queue h reference used = in-order-all reference (withoutAll used queue) 0 none tt (rising-keep (λ x. not (isOfAny used x)) 0 queue h)
-
--- ---- the places as they come, in an array
-
--- one more of them
-pub come-on : (row : List ℕ) (i : ℕ) → i < length row → take i row ≡ placesFrom 0 i → take (i + 1) (set row i i) ≡ placesFrom 0 (i + 1)
-come-on row i h inv = push row i i h ∙ ap (λ (r : List ℕ). r ++ (i ∷ [])) inv ∙ sym (places-on i)
-
--- all of them
-pub come-end : (row : List ℕ) (n i : ℕ) → length row ≡ n → n ≤ i → i ≤ n → take i row ≡ placesFrom 0 i → row ≡ placesFrom 0 n
-come-end row n i l h k inv =
-    let e : i ≡ n = omega arith in
-    sym (take-length row) ∙ ap (λ (j : ℕ). take j row) (l ∙ sym e) ∙ inv ∙ ap (placesFrom 0) e
