@@ -1,8 +1,9 @@
 -- Tests of every element and of some element: of one more, of two tests, and what follows of each.
 use Prim.Native.Nat.{ℕ}
 use mathlib.Core.Path.{_≡_, refl, sym, ap, _∙_}
-use mathlib.Core.Bool.{Bool, true, false, not, _&&_, _||_, and-false}
-use mathlib.Core.List.{List, [], _∷_, _++_}
+use mathlib.Core.Bool.{Bool, true, false, not, cond, _&&_, _||_, and-false, or-true}
+use mathlib.Core.Logic.{_⊎_, inl, inr}
+use mathlib.Core.List.{List, [], _∷_, _++_, List·Memᴰ, List·Memᴰ·head, List·Memᴰ·tail, List·Memᴰ·not-nil, List·Memᴰ·cases-cons}
 use borrow.Author.Tests.{eqb-true}
 use lib.Dec.{eqb}
 use Rattle.base.specs.Lists.{seek, any, every, member}
@@ -72,6 +73,13 @@ module _ {A : Type 0} where
       (λ t. cases (g x) (λ u. rw (t, u) (every-both f g xs)) (λ v. rw (t, v) (sym (and-false (every f xs)))))
       (λ k. rw k)
 
+  -- some element passes one of two tests where some passes the first or some passes the second
+  pub any-either : (f g : A → Bool) (xs : List A) → any (λ x. f x || g x) xs ≡ (any f xs || any g xs)
+  unfolding seek
+  any-either f g [] = refl
+  any-either f g (x ∷ xs) =
+      cases (f x) (λ t. rw t) (λ k. cases (g x) (λ u. rw (k, u) (sym (or-true (any f xs)))) (λ v. rw (k, v) (any-either f g xs)))
+
 -- ---- what holds of a member
 
 module _ (f : ℕ → Bool) where
@@ -108,3 +116,43 @@ module _ (f : ℕ → Bool) where
       cases (g x)
       (λ u. cases (f x) (λ t. so x t u) (λ e. any-so g xs so (rw e at h) (rw u at k)))
       (λ v. never (let z : false ≡ true = rw v at k in cc))
+
+-- ---- what holds of an element
+
+module _ {A : Type 0} (f : A → Bool) where
+  -- what holds of everyone holds of each element
+  pub every-in : {x : A} (xs : List A) → every f xs ≡ true → List·Memᴰ x xs → f x ≡ true
+  unfolding seek
+  every-in [] h m = absurd (List·Memᴰ·not-nil m)
+  every-in {x} (y ∷ xs) h m =
+      cases (f y) (λ t. go (List·Memᴰ·cases-cons m) t (every-in xs (rw t at h))) (λ k. never (let z : false ≡ true = rw k at h in cc))
+    where
+      go : (x ≡ y) ⊎ List·Memᴰ x xs → f y ≡ true → (List·Memᴰ x xs → f x ≡ true) → f x ≡ true
+      go (inl e) t rest = ap f e ∙ t
+      go (inr n) t rest = rest n
+
+  -- what holds of each element holds of everyone
+  pub every-from : (xs : List A) → ((x : A) → List·Memᴰ x xs → f x ≡ true) → every f xs ≡ true
+  unfolding seek
+  every-from [] h = refl
+  every-from (x ∷ xs) h = rw (h x (List·Memᴰ·head refl)) (every-from xs (λ y m. h y (List·Memᴰ·tail m)))
+
+  -- what holds of an element holds of some
+  pub any-in : {x : A} (xs : List A) → List·Memᴰ x xs → f x ≡ true → any f xs ≡ true
+  unfolding seek
+  any-in [] m e = absurd (List·Memᴰ·not-nil m)
+  any-in {x} (y ∷ xs) m e = go (List·Memᴰ·cases-cons m) (λ n. any-in xs n e)
+    where
+      go : (x ≡ y) ⊎ List·Memᴰ x xs → (List·Memᴰ x xs → any f xs ≡ true) → cond (f y) true (any f xs) ≡ true
+      go (inl i) rest = rw (sym (ap f i) ∙ e)
+      go (inr n) rest = cases (f y) (λ t. rw t) (λ k. rw k (rest n))
+
+  -- what holds of some holds of an element
+  pub any-from : (xs : List A) → any f xs ≡ true → (x : A) × (List·Memᴰ x xs × (f x ≡ true))
+  unfolding seek
+  any-from [] h = never cc
+  any-from (x ∷ xs) h = go (f x) refl h (any-from xs)
+    where
+      go : (b : Bool) → f x ≡ b → cond b true (any f xs) ≡ true → (any f xs ≡ true → (y : A) × (List·Memᴰ y xs × (f y ≡ true))) → (y : A) × (List·Memᴰ y (x ∷ xs) × (f y ≡ true))
+      go true e h rest = (x, (List·Memᴰ·head refl, e))
+      go false e h rest = (rest h .0, (List·Memᴰ·tail (rest h .1 .0), rest h .1 .1))
