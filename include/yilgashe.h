@@ -535,6 +535,21 @@ typedef struct yilgashe_keyed {
     uint8_t refusal;
 } yilgashe_keyed;
 
+/*
+ * What the match of a full round must meet: the constraints that are brought and, where waiting friends are, that no seated guest has
+ * a friend who is left waiting. Friends are guests who wait with the same party in their bookings, other than 0; the roster's parties
+ * do not count, so a friend who stayed at home holds nobody back. Seated is seated in either team. Whoever waits twice, with two
+ * parties, has the friends of both. All zeros brings nothing, and what a designated initializer leaves out is not brought:
+ *
+ *     yilgashe_round_rules rules = {.waiting_friends = true};
+ *
+ * Beside constraints.brought.parties, which goes by the roster's rows, both have to be met.
+ */
+typedef struct yilgashe_round_rules {
+    yilgashe_constraints constraints;
+    bool waiting_friends;
+} yilgashe_round_rules;
+
 /* The hall as a round leaves it, how many matches stand on the sheets, and how many choices a full round tried. */
 typedef struct yilgashe_rounded {
     yilgashe_hall hall;
@@ -566,8 +581,8 @@ yilgashe_rounded yilgashe_hall_beam_round(yilgashe_hall hall, yilgashe_beam_sear
                                           size_t deviations_len, uint64_t *players, size_t players_len, double *qualities,
                                           size_t qualities_len);
 
-/* The best choice among those who wait, if any passes, with quality 0.0; the seated leave. */
-yilgashe_rounded yilgashe_hall_full_round(yilgashe_hall hall, yilgashe_team_composition sizes, yilgashe_constraints constraints,
+/* The best choice among those who wait, if any meets the rules, with quality 0.0; the seated leave. */
+yilgashe_rounded yilgashe_hall_full_round(yilgashe_hall hall, yilgashe_team_composition sizes, yilgashe_round_rules rules,
                                           yilgashe_soft_objectives objectives, uint64_t clock, const uint64_t *ids, size_t ids_len,
                                           const double *ratings, size_t ratings_len, const uint64_t *parties, size_t parties_len,
                                           const uint32_t *roles, size_t roles_len, const uint8_t *regions, size_t regions_len,

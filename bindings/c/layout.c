@@ -178,6 +178,10 @@ SIZE(yilgashe_keyed, 27160)
 AT(yilgashe_keyed, hall, 0)
 AT(yilgashe_keyed, refusal, 27152)
 
+SIZE(yilgashe_round_rules, 336)
+AT(yilgashe_round_rules, constraints, 0)
+AT(yilgashe_round_rules, waiting_friends, 328)
+
 SIZE(yilgashe_rounded, 27176)
 AT(yilgashe_rounded, hall, 0)
 AT(yilgashe_rounded, count, 27152)

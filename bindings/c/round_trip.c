@@ -28,6 +28,7 @@ static double none_ratings[1];
 static yilgashe_queue_entry blank;
 static yilgashe_role_requirements no_requirements;
 static yilgashe_constraints no_rules;
+static yilgashe_round_rules no_round_rules;
 
 /* Numbers whose bytes all differ, one for each n. */
 static uint64_t wide(uint64_t n)
@@ -642,7 +643,7 @@ static void rounds(void)
     const yilgashe_match_objective quality = objective(1.0, 0.0, 0.0, 0.0);
     const yilgashe_soft_objectives skill = {{YILGASHE_SKILL}, {1.0}, 1};
     const yilgashe_beam_search beam = {32};
-    yilgashe_constraints rules = no_rules;
+    yilgashe_round_rules rules = no_round_rules;
     const uint64_t late = YILGASHE_MAX_TIME + 1;
     fill(&hall, four());
     hall.noted = 1;
@@ -666,13 +667,102 @@ static void rounds(void)
                                     SHEET, qualities, SHEET);
     CHECK(told.refusal == YILGASHE_ACCEPTED && told.count == 1 && told.tried == 4 && seated(1, 2, 4, ~(uint64_t)0));
     CHECK(told.hall.waiting == 1 && told.hall.bookings[0].player == 3 && qualities[0] == 0.0);
-    rules.brought.sizes = true;
+    rules.constraints.brought.sizes = true;
     told = yilgashe_hall_full_round(hall, two_one, rules, skill, 0, ids4, 4, ratings4, 4, parties4, 4, roles4, 4, regions4, 4, players,
                                     SHEET, qualities, SHEET);
     CHECK(told.refusal == YILGASHE_ACCEPTED && told.count == 0 && told.tried == 4 && told.hall.waiting == 4);
     told = yilgashe_hall_full_round(hall, two_one, rules, skill, late, ids4, 4, ratings4, 4, parties4, 4, roles4, 4, regions4, 4,
                                     players, SHEET, qualities, SHEET);
     CHECK(told.refusal == YILGASHE_CLOCK && told.count == 0 && told.tried == 0);
+}
+
+/* The n-th of these guests waits with the n-th of these parties. */
+static yilgashe_hall coming(const uint64_t *guests, const uint64_t *parties, size_t len)
+{
+    yilgashe_hall hall = yilgashe_hall_empty();
+    size_t n;
+    for (n = 0; n < len; n++) {
+        yilgashe_booking b = {guests[n], 0, 0.0, parties[n], 0};
+        hall.bookings[n] = b;
+    }
+    hall.waiting = len;
+    return hall;
+}
+
+/* A full round that scores all choices alike, with the roster's parties for guests 1, 2 and one more: 5, 0 and 5. */
+static yilgashe_rounded friends_round(yilgashe_hall hall, yilgashe_team_composition sizes, uint64_t more, bool parties,
+                                      bool waiting_friends)
+{
+    const uint64_t ids[3] = {1, 2, more}, of_rows[3] = {5, 0, 5};
+    const yilgashe_soft_objectives wait = {{YILGASHE_WAIT}, {1.0}, 1};
+    yilgashe_round_rules rules = no_round_rules;
+    rules.constraints.brought.parties = parties;
+    rules.waiting_friends = waiting_friends;
+    fresh_sheets();
+    return yilgashe_hall_full_round(hall, sizes, rules, wait, 0, ids, 3, ratings4, 3, of_rows, 3, roles4, 3, regions4, 3, players, SHEET,
+                                    qualities, SHEET);
+}
+
+/* Did the round try so many choices and seat these two, the last of those that pass? */
+static bool pair_of(const yilgashe_rounded *told, uint64_t tried, uint64_t a, uint64_t b)
+{
+    return told->refusal == YILGASHE_ACCEPTED && told->tried == tried && told->count == 1 &&
+           seated(a, b, ~(uint64_t)0, ~(uint64_t)0);
+}
+
+/* Did it try so many and seat nobody? */
+static bool nobody(const yilgashe_rounded *told, uint64_t tried)
+{
+    return told->refusal == YILGASHE_ACCEPTED && told->tried == tried && told->count == 0 && players[0] == ~(uint64_t)0;
+}
+
+/* Friends by their bookings are seated together or not at all, whatever the roster says. */
+static void waiting_friends(void)
+{
+    static yilgashe_rounded told;
+    const yilgashe_team_composition pairs = teams_of(1, 1), alone = teams_of(1, 0);
+    const uint64_t guests[3] = {1, 2, 3}, apart[3] = {7, 0, 7}, both[2] = {7, 7}, none[3] = {0, 0, 0};
+    told = friends_round(coming(guests, apart, 3), pairs, 9, false, false);
+    CHECK(pair_of(&told, 3, 2, 3));
+    told = friends_round(coming(guests, apart, 3), pairs, 9, false, true);
+    CHECK(pair_of(&told, 3, 1, 3) && told.hall.waiting == 1 && told.hall.bookings[0].player == 2);
+    /* One seat parts two friends, so neither gets it; a party of one waits for nobody. */
+    told = friends_round(coming(guests, both, 2), alone, 9, false, true);
+    CHECK(nobody(&told, 2) && told.hall.waiting == 2);
+    told = friends_round(coming(guests, both, 1), alone, 9, false, true);
+    CHECK(told.refusal == YILGASHE_ACCEPTED && told.count == 1 && told.tried == 1 && players[0] == 1);
+    /* Party 0 is none, and the roster's parties bind the other kind alone. */
+    told = friends_round(coming(guests, none, 3), pairs, 3, false, true);
+    CHECK(pair_of(&told, 3, 2, 3));
+    told = friends_round(coming(guests, none, 3), pairs, 3, true, true);
+    CHECK(pair_of(&told, 3, 1, 3));
+}
+
+/* Guest 9 stayed at home. By the roster that holds back guest 1, and with him the one table there is. */
+static void friends_at_home(void)
+{
+    static yilgashe_rounded told;
+    const uint64_t guests[2] = {1, 2}, parties[2] = {5, 0};
+    const yilgashe_hall hall = coming(guests, parties, 2);
+    told = friends_round(hall, teams_of(1, 1), 9, true, false);
+    CHECK(nobody(&told, 1) && told.hall.waiting == 2);
+    told = friends_round(hall, teams_of(1, 1), 9, true, true);
+    CHECK(nobody(&told, 1) && told.hall.waiting == 2);
+    told = friends_round(hall, teams_of(1, 1), 9, false, true);
+    CHECK(pair_of(&told, 1, 1, 2) && told.hall.waiting == 0);
+}
+
+/* Guest 2 waits twice, and is a friend by both parties: all three sit, or none. */
+static void friends_of_two_parties(void)
+{
+    static yilgashe_rounded told;
+    const uint64_t guests[4] = {1, 2, 2, 3}, parties[4] = {7, 7, 8, 8};
+    const yilgashe_hall hall = coming(guests, parties, 4);
+    told = friends_round(hall, teams_of(1, 1), 9, false, true);
+    CHECK(nobody(&told, 6) && told.hall.waiting == 4);
+    told = friends_round(hall, teams_of(2, 1), 9, false, true);
+    CHECK(told.refusal == YILGASHE_ACCEPTED && told.count == 1 && told.tried == 4 && seated(1, 2, 3, ~(uint64_t)0));
+    CHECK(told.hall.waiting == 0);
 }
 
 /* Each number's word, and none beyond. */
@@ -709,6 +799,9 @@ int main(void)
     bookings();
     notes();
     rounds();
+    waiting_friends();
+    friends_at_home();
+    friends_of_two_parties();
     printf("%u passed\n", passed);
     return 0;
 }

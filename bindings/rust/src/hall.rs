@@ -3,7 +3,7 @@
 use crate::matches::Matches;
 use crate::proposed::raw_objectives;
 use crate::refusal::answered;
-use crate::{Constraints, Refusal, Roster, SoftObjective};
+use crate::{Refusal, Roster, RoundRules, SoftObjective};
 use yilgashe_sys as sys;
 use yilgashe_sys::{BeamSearch, Booking, MatchObjective, TeamComposition};
 
@@ -131,12 +131,12 @@ impl Hall {
         Ok(matches.first(answer.count))
     }
 
-    /// The best by the soft objectives among all choices that meet the constraints, the last of equal best; the seated leave.
+    /// The best by the soft objectives among all choices that meet the rules, the last of equal best; the seated leave.
     ///
     /// A table needs a healer here, and the most even one is wished for:
     ///
     /// ```
-    /// use yilgashe::{Booking, Constraints, Hall, Refusal, RoleRequirement, Roster, Row, SoftObjective, TeamComposition};
+    /// use yilgashe::{Booking, Constraints, Hall, Refusal, RoleRequirement, Roster, RoundRules, Row, SoftObjective, TeamComposition};
     ///
     /// const HEALER: u32 = 1;
     /// let mut hall = Hall::new();
@@ -147,7 +147,7 @@ impl Hall {
     /// }
     /// let roster: Roster = rows.into_iter().collect();
     /// let healer = RoleRequirement { role: HEALER, least: 1, most: None };
-    /// let rules = Constraints { roles: Some(vec![healer]), ..Constraints::default() };
+    /// let rules = RoundRules::from(Constraints { roles: Some(vec![healer]), ..Constraints::default() });
     /// let round = hall.full_round(TeamComposition { a: 1, b: 1 }, &rules, &[SoftObjective::Skill(1.0)], 0, &roster)?;
     /// assert_eq!(round.tried, 3);
     /// let table = round.matches.iter().next().unwrap();
@@ -157,7 +157,7 @@ impl Hall {
     pub fn full_round(
         &mut self,
         sizes: TeamComposition,
-        constraints: &Constraints,
+        rules: &RoundRules,
         objectives: &[SoftObjective],
         clock: u64,
         roster: &Roster,
@@ -167,7 +167,7 @@ impl Hall {
         let answer = sys::hall_full_round(
             *self.0,
             sizes,
-            constraints.raw(),
+            rules.raw(),
             raw_objectives(objectives),
             clock,
             &roster.ids,

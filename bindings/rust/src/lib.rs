@@ -44,7 +44,7 @@ pub use proposed::{ProposedMatch, SoftObjective, soft_score};
 pub use queue::Queue;
 pub use refusal::Refusal;
 pub use roster::{Region, Roster, Row};
-pub use rules::{Constraints, Fault, RoleRequirement, TeamRule};
+pub use rules::{Constraints, Fault, RoleRequirement, RoundRules, TeamRule};
 pub use searches::Choice;
 pub use yilgashe_sys as sys;
 pub use yilgashe_sys::{

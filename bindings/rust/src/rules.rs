@@ -1,4 +1,4 @@
-//! Constraints, one team's rule, and the policy's score.
+//! Constraints, a full round's rules, one team's rule, and the policy's score.
 
 use crate::proposed::{raw_objectives, scored};
 use crate::refusal::answered;
@@ -41,6 +41,42 @@ pub struct Constraints {
     pub latency: bool,
     /// Each recorded guest of team A with each of team B is one of these pairs, either way round; at most 16.
     pub regions: Option<Vec<(Region, Region)>>,
+}
+
+/// What the match of a [`Hall::full_round`](crate::Hall::full_round) must meet. The default asks nothing, and constraints alone make
+/// rules [`from`](RoundRules::from) them.
+///
+/// Guests 1 and 3 come together. Whoever is seated with them, they are not parted:
+///
+/// ```
+/// use yilgashe::{Booking, Hall, Refusal, Roster, RoundRules, TeamComposition};
+///
+/// let mut hall = Hall::new();
+/// for (player, party) in [(1, 7), (2, 0), (3, 7)] {
+///     hall.book(player, Booking { player, party, ..Booking::default() })?;
+/// }
+/// let together = RoundRules { waiting_friends: true, ..RoundRules::default() };
+/// let round = hall.full_round(TeamComposition { a: 1, b: 1 }, &together, &[], 0, &Roster::new())?;
+/// assert_eq!(round.matches.players(), [1, 3]);
+/// # Ok::<(), Refusal>(())
+/// ```
+#[derive(Clone, Debug, Default, PartialEq)]
+pub struct RoundRules {
+    /// As other calls take them. Its parties are those of the roster, where a friend who stayed at home holds his whole party back.
+    pub constraints: Constraints,
+    /// Everyone is seated, in either team, who waits with the party of a booking of somebody seated. Party 0 is none, and the roster's
+    /// parties do not count: whoever stayed at home holds nobody back.
+    pub waiting_friends: bool,
+}
+
+/// Without waiting friends.
+impl From<Constraints> for RoundRules {
+    fn from(constraints: Constraints) -> RoundRules {
+        RoundRules {
+            constraints,
+            waiting_friends: false,
+        }
+    }
 }
 
 /// What one team must be like.
@@ -164,6 +200,15 @@ impl Constraints {
             &roster.roles,
             &roster.regions,
         ))
+    }
+}
+
+impl RoundRules {
+    pub(crate) fn raw(&self) -> sys::RoundRules {
+        sys::RoundRules {
+            constraints: self.constraints.raw(),
+            waiting_friends: self.waiting_friends,
+        }
     }
 }
 

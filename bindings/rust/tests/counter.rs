@@ -2,8 +2,8 @@
 
 use yilgashe::{
     Booking, Constraints, Fault, Hall, KeyRecord, Match, MatchObjective, ProposedMatch, Queue,
-    QueueEntry, Refusal, Region, RoleRequirement, Roster, Row, SoftObjective, TeamComposition,
-    TeamRule, select, sys, time,
+    QueueEntry, Refusal, Region, RoleRequirement, Roster, RoundRules, Row, SoftObjective,
+    TeamComposition, TeamRule, select, sys, time,
 };
 
 const PAIRS: TeamComposition = TeamComposition { a: 1, b: 1 };
@@ -134,7 +134,7 @@ fn rounds_seat_and_refuse() {
     };
     assert_eq!(seated.iter().collect::<Vec<_>>(), [table]);
     assert_eq!(beam.waiting(), [booking(3)]);
-    let free = Constraints::default();
+    let free = RoundRules::default();
     let round = hall(21).full_round(PAIRS, &free, &[], 0, &roster);
     assert_eq!(round, Err(Refusal::TooWide));
     let none = hall(1).full_round(PAIRS, &free, &[], 0, &roster).unwrap();
@@ -374,4 +374,112 @@ fn an_earlier_copy_may_take_a_seat() {
         let searched = queue.greedy(PAIRS, &roster).unwrap();
         assert_eq!(searched.players(), [1, picked]);
     }
+}
+
+/// Those who wait, each with the party that he booked with. A hall that was kept elsewhere may have somebody twice.
+fn parties(waiting: &[(u64, u64)]) -> Hall {
+    let booked = |&(player, party)| Booking {
+        party,
+        ..booking(player)
+    };
+    let bookings: Vec<Booking> = waiting.iter().map(booked).collect();
+    Hall::from(sys::Hall::of(&bookings, &[]))
+}
+
+/// Guests with these parties, as the roster has them.
+fn rostered(rows: &[(u64, u64)]) -> Roster {
+    let row = |&(player, party)| Row {
+        player,
+        rating: 1000.0,
+        party,
+        ..Row::default()
+    };
+    rows.iter().map(row).collect()
+}
+
+/// Friends by the roster, by their bookings, or both.
+fn friends(parties: bool, waiting_friends: bool) -> RoundRules {
+    RoundRules {
+        constraints: Constraints {
+            parties,
+            ..Constraints::default()
+        },
+        waiting_friends,
+    }
+}
+
+/// Whom a full round seats that scores all choices alike: the last of those that pass.
+fn seats(hall: &mut Hall, sizes: TeamComposition, rules: &RoundRules, roster: &Roster) -> Vec<u64> {
+    let round = hall.full_round(sizes, rules, &[], 0, roster).unwrap();
+    round.matches.players().to_vec()
+}
+
+/// Guest 9 is of guest 1's party, and did not come.
+#[test]
+fn a_friend_at_home_holds_back_by_the_roster_alone() {
+    let roster = rostered(&[(1, 5), (2, 0), (9, 5)]);
+    let mut hall = parties(&[(1, 5), (2, 0)]);
+    let by_roster = friends(true, false);
+    assert_eq!(by_roster, RoundRules::from(by_roster.constraints.clone()));
+    assert_eq!(seats(&mut hall, PAIRS, &by_roster, &roster), []);
+    assert_eq!(seats(&mut hall, PAIRS, &friends(true, true), &roster), []);
+    assert_eq!(hall.waiting().len(), 2);
+    let by_bookings = friends(false, true);
+    assert_eq!(seats(&mut hall, PAIRS, &by_bookings, &roster), [1, 2]);
+    assert!(hall.waiting().is_empty());
+}
+
+#[test]
+fn friends_who_wait_are_seated_together_or_not_at_all() {
+    let nobody = Roster::new();
+    let (free, together) = (RoundRules::default(), friends(false, true));
+    let guests = [(1, 7), (2, 0), (3, 7)];
+    assert_eq!(seats(&mut parties(&guests), PAIRS, &free, &nobody), [2, 3]);
+    let mut hall = parties(&guests);
+    assert_eq!(seats(&mut hall, PAIRS, &together, &nobody), [1, 3]);
+    assert_eq!(hall.waiting(), [booking(2)]);
+    // One seat parts them; a third friend does not fit.
+    let one = TeamComposition { a: 1, b: 0 };
+    assert_eq!(seats(&mut parties(&guests), one, &together, &nobody), [2]);
+    let three = [(1, 7), (2, 7), (3, 7)];
+    let mut hall = parties(&three);
+    let round = hall.full_round(PAIRS, &together, &[], 0, &nobody).unwrap();
+    assert!(round.matches.is_empty() && round.tried == 3);
+    assert_eq!(hall.waiting().len(), 3);
+}
+
+/// Party 0 is none in a booking, and what the roster says of the parties of those who wait binds nobody here.
+#[test]
+fn only_parties_of_bookings_make_waiting_friends() {
+    let roster = rostered(&[(1, 5), (2, 0), (3, 5)]);
+    let guests = [(1, 0), (2, 0), (3, 0)];
+    let seats = |rules| seats(&mut parties(&guests), PAIRS, &rules, &roster);
+    assert_eq!(seats(friends(false, true)), [2, 3]);
+    assert_eq!(seats(friends(true, false)), [1, 3]);
+    assert_eq!(seats(friends(true, true)), [1, 3]);
+}
+
+/// Guests 1 and 3 come together; on the roster 1 and 2 are friends.
+#[test]
+fn both_kinds_of_parties_at_once() {
+    const THREE: TeamComposition = TeamComposition { a: 2, b: 1 };
+    let roster = rostered(&[(1, 5), (2, 5), (3, 0), (4, 0)]);
+    let guests = [(1, 7), (2, 0), (3, 7), (4, 0)];
+    let seats = |rules| seats(&mut parties(&guests), THREE, &rules, &roster);
+    assert_eq!(seats(friends(false, false)), [2, 3, 4]);
+    assert_eq!(seats(friends(false, true)), [1, 3, 4]);
+    assert_eq!(seats(friends(true, false)), [1, 2, 4]);
+    assert_eq!(seats(friends(true, true)), [1, 2, 3]);
+}
+
+/// Guest 2 waits twice, with two parties, and has the friends of both.
+#[test]
+fn a_guest_of_two_parties() {
+    let (nobody, together) = (Roster::new(), friends(false, true));
+    let mut hall = parties(&[(1, 7), (2, 7), (2, 8), (3, 8)]);
+    assert_eq!(seats(&mut hall, PAIRS, &together, &nobody), []);
+    assert_eq!(hall.waiting().len(), 4);
+    let three = TeamComposition { a: 2, b: 1 };
+    assert_eq!(seats(&mut hall, three, &together, &nobody), [1, 2, 3]);
+    assert!(hall.waiting().is_empty());
 }

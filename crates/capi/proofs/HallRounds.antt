@@ -30,7 +30,7 @@ use Rattle.capi.specs.Scores.{isNoKind, softsOf}
 use Rattle.capi.specs.Searches.{sheets}
 use Rattle.capi.specs.Halls.{RoundNumbers, fullCall, fullRule}
 use Rattle.capi.specs.declared.halls.Rounded.{Rounded}
-use Rattle.capi.specs.declared.rules.Constraints.{Constraints}
+use Rattle.capi.specs.declared.halls.RoundRules.{RoundRules}
 use Rattle.capi.specs.declared.scores.SoftObjectives.{SoftObjectives}
 
 -- ---- who stays
@@ -86,9 +86,9 @@ module _ (hall : Hall) (c : RoundCall) where
 -- ---- the full round
 
 -- the call that an exported full round stands for
-module _ (h : HallState) (sizes : TeamComposition) (c : Constraints) (o : SoftObjectives) (clock : ℕ) (roster : Roster) (players : List ℕ) (qualities : List Float) where
+module _ (h : HallState) (sizes : TeamComposition) (rules : RoundRules) (o : SoftObjectives) (clock : ℕ) (roster : Roster) (players : List ℕ) (qualities : List Float) where
   abbrev call : RoundCall
-  call = fullCall sizes c o clock roster (sheets players qualities)
+  call = fullCall sizes rules o clock roster (sheets players qualities)
 
   -- a listed code is none: 1, and nothing changes
   pub no-kind-told : (hall : Hall) → hallOf hall ≡ h → any isNoKind (take (o .len) (o .kinds)) ≡ true → RoundNumbers (fullRule h o call) (away hall) players qualities
@@ -99,6 +99,6 @@ module _ (h : HallState) (sizes : TeamComposition) (c : Constraints) (o : SoftOb
   kinds-told b z = rw b z
 
   -- the round of the constraints and the objectives that the numbers tell
-  pub terms-told : {all : whole.Constraints} {softs : List SoftObjective} (ws : List Booking) → all ≡ constraintsOf c → softs ≡ softsOf (o .kinds) (o .weights) → {r : Handed} {ps : List ℕ} {qs : List Float} →
-      FoundNumbers (calling (full sizes (terms roster all softs (o .len))) clock players qualities) ws r ps qs → FoundNumbers call ws r ps qs
+  pub terms-told : {all : whole.Constraints} {softs : List SoftObjective} (ws : List Booking) → all ≡ constraintsOf (rules .constraints) → softs ≡ softsOf (o .kinds) (o .weights) → {r : Handed} {ps : List ℕ} {qs : List Float} →
+      FoundNumbers (calling (full sizes (terms roster all (rules .«waiting_friends») softs (o .len))) clock players qualities) ws r ps qs → FoundNumbers call ws r ps qs
   terms-told ws e f z = rw (e, f) at z

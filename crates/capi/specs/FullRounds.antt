@@ -1,6 +1,6 @@
 -- What the exported best choice answers.
 use mathlib.Core.Path.{_≡_}
-use mathlib.Core.Bool.{cond}
+use mathlib.Core.Bool.{false, cond}
 use lib.ListN.{take}
 use Rattle.base.specs.Lists.{any}
 use Rattle.base.specs.Refusals.{Outcome, refused}
@@ -23,8 +23,8 @@ pub record ChoiceNumbers (o : Outcome Selection) (r : Chosen) : Type 0 where
   pub found : r .found ≡ isChosen o
   pub refusal : r .refusal ≡ refusalOf o
 
--- a soft kind that is none, or the best choice
+-- a soft kind that is none, or the best choice, for which waiting friends are not brought: only rounds know them
 abbrev pub choiceNumbers : Roster → Constraints → SoftObjectives → TeamComposition → QueueState → Outcome Selection
 choiceNumbers r c o s q =
     cond (any isNoKind (take (o .len) (o .kinds))) (refused 1)
-    (choiceRule (terms r (constraintsOf c) (softsOf (o .kinds) (o .weights)) (o .len)) s q)
+    (choiceRule (terms r (constraintsOf c) false (softsOf (o .kinds) (o .weights)) (o .len)) s q)

@@ -19,7 +19,7 @@ use Rattle.capi.specs.Scores.{isNoKind, softsOf}
 use Rattle.capi.specs.Searches.{sheets}
 use Rattle.capi.specs.declared.halls.Keyed.{Keyed}
 use Rattle.capi.specs.declared.halls.Rounded.{Rounded}
-use Rattle.capi.specs.declared.rules.Constraints.{Constraints}
+use Rattle.capi.specs.declared.halls.RoundRules.{RoundRules}
 use Rattle.capi.specs.declared.scores.SoftObjectives.{SoftObjectives}
 
 -- ---- bookings and withdrawals
@@ -47,9 +47,13 @@ pub record RoundNumbers (t : RoundTurn) (r : Rounded) (players : List ℕ) (qual
 -- ---- the full round
 
 -- the call of the hall that an exported full round stands for
-abbrev pub fullCall : TeamComposition → Constraints → SoftObjectives → ℕ → Roster → Sheets → RoundCall
-fullCall sizes c o clock r s =
-    record { round = full sizes (terms r (constraintsOf c) (softsOf (o .kinds) (o .weights)) (o .len)); clock = clock; sheets = s }
+abbrev pub fullCall : TeamComposition → RoundRules → SoftObjectives → ℕ → Roster → Sheets → RoundCall
+fullCall sizes rules o clock r s =
+    record {
+      round = full sizes (terms r (constraintsOf (rules .constraints)) (rules .«waiting_friends») (softsOf (o .kinds) (o .weights)) (o .len));
+      clock = clock;
+      sheets = s;
+    }
 
 -- a soft kind that is none, or the round
 abbrev pub fullRule : HallState → SoftObjectives → RoundCall → RoundTurn

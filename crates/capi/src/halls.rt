@@ -24,6 +24,14 @@ pub struct Keyed {
     pub refusal: u8,
 }
 
+// What the match of a round must meet: the constraints that are brought, and, where waiting friends are, that with each guest everyone is
+// seated who waits with the party of an entry of that guest. Party 0 is none.
+#[repr(C)]
+pub struct RoundRules {
+    pub constraints: Constraints,
+    pub waiting_friends: bool,
+}
+
 // How many matches were handed out and how many choices were tried, 0 and 0 where it is refused.
 #[repr(C)]
 pub struct Rounded {
@@ -240,7 +248,7 @@ pub extern "C" fn yilgashe_hall_beam_round(
 pub extern "C" fn yilgashe_hall_full_round(
     hall: Hall,
     sizes: TeamComposition,
-    constraints: Constraints,
+    rules: RoundRules,
     objectives: SoftObjectives,
     clock: u64,
     ids: &[u64],
@@ -251,7 +259,7 @@ pub extern "C" fn yilgashe_hall_full_round(
     players: &mut [u64],
     qualities: &mut [f64],
 ) -> Rounded
-    ensures { λ r. ⌜ RoundNumbers (fullRule (hallOf hall) objectives (fullCall sizes constraints objectives clock (ofRules (now (ids .entry)) (now (ratings .entry)) (now (parties .entry)) (now (roles .entry)) (now (regions .entry))) (sheets (now (players .entry)) (now (qualities .entry))))) r (now (players .exit)) (now (qualities .exit)) ⌝ }
+    ensures { λ r. ⌜ RoundNumbers (fullRule (hallOf hall) objectives (fullCall sizes rules objectives clock (ofRules (now (ids .entry)) (now (ratings .entry)) (now (parties .entry)) (now (roles .entry)) (now (regions .entry))) (sheets (now (players .entry)) (now (qualities .entry))))) r (now (players .exit)) (now (qualities .exit)) ⌝ }
 {
     let mut out = hall;
     if objectives.has_no_kind() {
@@ -276,7 +284,8 @@ pub extern "C" fn yilgashe_hall_full_round(
         bookings,
         n,
         sizes,
-        crate::rules::constraints_of(constraints),
+        crate::rules::constraints_of(rules.constraints),
+        rules.waiting_friends,
         objectives.objectives(),
         objectives.len,
         clock,

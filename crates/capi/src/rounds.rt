@@ -81,6 +81,7 @@ pub extern "C" fn yilgashe_best_choice(
         queue,
         sizes,
         all,
+        false,
         softs,
         n,
         ids,

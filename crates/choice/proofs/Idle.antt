@@ -12,6 +12,7 @@ use lib.Ieee.{nan}
 use lib.ListN.{length, take, drop, getD, length-take, length-append}
 use Rattle.base.proofs.Cases.{cases}
 use Rattle.base.proofs.Checks.{both-hold}
+use Rattle.queue.specs.declared.QueueEntry.{QueueEntry}
 use Rattle.roster.specs.Roster.{Roster}
 use Rattle.matchmaker.specs.Quality.{MatchState, seated}
 use Rattle.seating.specs.declared.TeamComposition.{TeamComposition}
@@ -62,21 +63,21 @@ module _ (f : ℕ → Bool) (at left : ℕ) {v : Bool} (inv : idleFrom f at left
 
 -- ---- what idle choices leave
 
-module _ (t : Terms) (s : TeamComposition) (q : List ℕ) (m : MatchState) (f : ℕ → Bool) (found many bad : Bool) (p : Scored) where
+module _ (t : Terms) (es : List QueueEntry) (s : TeamComposition) (q : List ℕ) (m : MatchState) (f : ℕ → Bool) (found many bad : Bool) (p : Scored) where
   -- the best so far when so many were tried
   abbrev kept : ℕ → SoFar
   kept tried = record { tried = tried; best = cond found (some p) none; many = many; nan = bad }
 
   -- choices that are each idle are only counted
-  pub all-idle : (last : ℕ) → last ≤ length q → ((i tried : ℕ) → i < last → f i ≡ true → skipped (kept tried) ≡ weighed t (kept tried) (seatedNext s m (getD q i 0))) → (n at tried : ℕ) → at + n ≤ last → idleFrom f at n ≡ true
-      → kept (tried + n) ≡ through s (weighed t) m 1 (take n (drop at q)) (kept tried)
+  pub all-idle : (last : ℕ) → last ≤ length q → ((i tried : ℕ) → i < last → f i ≡ true → skipped (kept tried) ≡ weighed t es (kept tried) (seatedNext s m (getD q i 0))) → (n at tried : ℕ) → at + n ≤ last → idleFrom f at n ≡ true
+      → kept (tried + n) ≡ through s (weighed t es) m 1 (take n (drop at q)) (kept tried)
   unfolding idleFrom
   all-idle last l each zero at tried h e =
-      ap kept (omega arith) ∙ through-short s (weighed t) m 1 (take 0 (drop at q)) (kept tried) (omega (arith, length-take 0 (drop at q)))
+      ap kept (omega arith) ∙ through-short s (weighed t es) m 1 (take 0 (drop at q)) (kept tried) (omega (arith, length-take 0 (drop at q)))
   all-idle last l each (suc n) at tried h e =
       let k = both-hold (f at) (idleFrom f (at + 1) n) e in
       let z : suc n - 1 ≡ n = omega arith in
-      let g = last-next s (weighed t) q m at (suc n) (kept tried) refl (omega arith) (omega arith) refl (each at tried (omega arith) (k .0)) in
+      let g = last-next s (weighed t es) q m at (suc n) (kept tried) refl (omega arith) (omega arith) refl (each at tried (omega arith) (k .0)) in
       ap kept (omega arith) ∙ all-idle last l each n (at + 1) (tried + 1) (omega arith) (k .1) ∙ (rw z at g)
 
 -- ---- the next player but one
@@ -96,17 +97,17 @@ short-by-two s m p a =
 -- ---- seat_two
 
 -- the choices with the player at a place, whose last seats are all idle
-module _ (r : Roster) (c : Constraints) (n : ℕ) (x : Columns) (b : Bounds) (stands : StandFor r c n x b) (objectives : List SoftObjective) (count : ℕ) (s : TeamComposition) (in-a : s .a ≤ 8) (in-b : s .b ≤ 8) where
+module _ (r : Roster) (c : Constraints) (on : Bool) (es : List QueueEntry) (x : Columns) (b : Bounds) (stands : StandFor r c on es x b) (objectives : List SoftObjective) (count : ℕ) (s : TeamComposition) (in-a : s .a ≤ 8) (in-b : s .b ≤ 8) where
   pub two-idle : (m : MatchState) (sums : Sums) (first found many bad : Bool) (p : Scored) (at k tried : ℕ) {idle : Bool}
       → Summing r s m sums → length (seated m) + 1 ≡ seatsOf s → first ≡ ltb (length (m .a .players)) (s .a)
-      → at + k ≤ n → at + k ≤ length (x .queued) → idle ≡ idleFrom (idleAt (take count objectives) s (x .rows) (x .rated) sums first found many (p .score)) at k → idle ≡ true
+      → at + k ≤ length es → at + k ≤ length (x .queued) → idle ≡ idleFrom (idleAt (take count objectives) s (x .rows) (x .rated) sums first found many (p .score)) at k → idle ≡ true
       → _≡_ {A = SoFar} (record { tried = tried + k; best = cond found (some p) none; many = many; nan = bad })
-      (through s (weighed (terms r c objectives count)) m 1 (take k (drop at (x .queued))) (record { tried = tried; best = cond found (some p) none; many = many; nan = bad }))
+      (through s (weighed (terms r c on objectives count) es) m 1 (take k (drop at (x .queued))) (record { tried = tried; best = cond found (some p) none; many = many; nan = bad }))
   two-idle m sums first found many bad p at k tried fills h e g l i j =
-      let t = terms r c objectives count in
+      let t = terms r c on objectives count in
       let q = x .queued in
-      all-idle t s q m (idleAt (take count objectives) s (x .rows) (x .rated) sums first found many (p .score)) found many bad p (at + k) l
+      all-idle t es s q m (idleAt (take count objectives) s (x .rows) (x .rated) sums first found many (p .score)) found many bad p (at + k) l
       (λ y tr w z.
-      idle-skipped t (seatedNext s m (getD q y 0)) tr found many bad p
+      idle-skipped t es (seatedNext s m (getD q y 0)) tr found many bad p
       (last-score r s m sums (getD q y 0) (take count objectives) (getD (x .rows) y false) first (getD (x .rated) y nan) (grown-read (stands .says y (omega arith))) fills in-a in-b h e) refl z)
       k at tried (omega arith) (sym i ∙ j)

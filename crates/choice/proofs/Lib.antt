@@ -1,5 +1,6 @@
 pub mod Weighing
 pub mod FullLaws
+pub mod FriendLaws
 pub mod Stepping
 pub mod Checking
 pub mod Summing
@@ -10,6 +11,7 @@ pub mod Packing
 pub mod MarkLaws
 pub mod CountLaws
 pub mod Gathered
+pub mod Invited
 pub mod TallyLaws
 pub mod Onward
 pub mod Standing

@@ -11,6 +11,7 @@ use lib.Ieee.{Float, nan, inf, fin, binary64, add, lt, isNan}
 use lib.ListN.{length, getD, length-append}
 use Rattle.base.specs.Floats as Floats
 use Rattle.base.proofs.Cases.{cases, never, pick}
+use Rattle.queue.specs.declared.QueueEntry.{QueueEntry}
 use Rattle.roster.specs.Roster.{Roster, ratingOf}
 use Rattle.matchmaker.specs.Quality.{MatchState, seated, observations, sumOf}
 use Rattle.matchmaker.specs.Steps.{absorb}
@@ -38,7 +39,7 @@ grown-by none sum = refl
 grown-by (some x) sum = refl
 
 -- a sum grows by what the columns say of a place
-pub grown-read : {r : Roster} {c : Constraints} {queue : List ℕ} {x : Columns} {i p : ℕ} → Says r c queue x i p → (sum : Float)
+pub grown-read : {r : Roster} {c : Constraints} {on : Bool} {es : List QueueEntry} {x : Columns} {i p : ℕ} → Says r c on es x i p → (sum : Float)
     → plusRow (getD (x .rows) i false) (getD (x .rated) i nan) sum ≡ absorb (add binary64) sum (ratingOf r p)
 grown-read {r} {p = p} h sum = rw (h .row, h .rating) (grown-by (ratingOf r p) sum)
 
@@ -144,12 +145,12 @@ or-not true e = refl
 or-not false e = e
 
 -- two or more passed, and the best of them scores higher than m: m is only counted, whether it passes or not
-pub idle-skipped : (t : Terms) (m : MatchState) (tried : ℕ) (found many bad : Bool) (p : Scored) {score : Float} {idle : Bool} → score ≡ scoreIn t m → idle ≡ (found && (many && lt score (p .score))) → idle ≡ true
-    → skipped (record { tried = tried; best = cond found (some p) none; many = many; nan = bad }) ≡ weighed t (record { tried = tried; best = cond found (some p) none; many = many; nan = bad }) m
+pub idle-skipped : (t : Terms) (es : List QueueEntry) (m : MatchState) (tried : ℕ) (found many bad : Bool) (p : Scored) {score : Float} {idle : Bool} → score ≡ scoreIn t m → idle ≡ (found && (many && lt score (p .score))) → idle ≡ true
+    → skipped (record { tried = tried; best = cond found (some p) none; many = many; nan = bad }) ≡ weighed t es (record { tried = tried; best = cond found (some p) none; many = many; nan = bad }) m
 unfolding weighed
-idle-skipped t m tried false many bad p e i h = never cc
-idle-skipped t m tried true false bad p e i h = never cc
-idle-skipped t m tried true true bad p {score} e i h =
+idle-skipped t es m tried false many bad p e i h = never cc
+idle-skipped t es m tried true false bad p e i h = never cc
+idle-skipped t es m tried true true bad p {score} e i h =
     let l : lt (scoreIn t m) (p .score) ≡ true = rw e at (sym i ∙ h) in
     let n = or-not bad (lower-number (scoreIn t m) (p .score) l) in
-    cases (passes t m) (λ y. rw (y, l, n)) (λ f. rw f)
+    cases (passes t es m) (λ y. rw (y, l, n)) (λ f. rw f)

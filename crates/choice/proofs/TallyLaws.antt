@@ -14,6 +14,7 @@ use Rattle.base.specs.declared.Checked.the-variants.{Passed}
 use Rattle.base.proofs.Cases.{cases}
 use Rattle.base.proofs.Every.{every-alike, every-more, any-more, every-passes, none-passes, every-both}
 use Rattle.base.proofs.Members.{eqb-sym, Distinct-of, within-append}
+use Rattle.queue.specs.declared.QueueEntry.{QueueEntry}
 use Rattle.roster.specs.Roster.{Roster, rulesCheck, ratingOf, regionOf}
 use Rattle.roster.proofs.Laws.{passed-distinct}
 use Rattle.matchmaker.specs.Quality.{MatchState, seated}
@@ -25,14 +26,16 @@ use Rattle.constraint.specs.declared.roles.RoleRequirement.{RoleRequirement}
 use Rattle.constraint.specs.declared.regions.RegionPair.{RegionPair}
 use Rattle.constraint.specs.Constraints.{hasRole, roleCount, requirementHolds, requirementsOf, rolesHold, sizesHold, partyTogether, aboveZero, latencyHolds, mayMeet, pairsOf, regionsHold, constraintsHold}
 use Rattle.constraint.proofs.RoleLaws.{role-count-append}
-use Rattle.choice.specs.Reading.{marks, packed, partyIn, admitted, wants, bars, required, countsFor, boundsOf, inLimits, Columns, Says}
+use Rattle.choice.specs.Friends.{friendsSeated}
+use Rattle.choice.specs.Reading.{marks, packed, playersOf, partyIn, admitted, wants, expects, bars, required, countsFor, boundsOf, inLimits, Columns, Says}
 use Rattle.choice.specs.Sums.{Summing}
 use Rattle.choice.specs.Tallies.{sizesFit, noTally, tallyWith, fits, Tallying}
 use Rattle.choice.specs.declared.Sums.{Sums}
 use Rattle.choice.specs.declared.tally.Bounds.{Bounds}
 use Rattle.choice.specs.declared.tally.Tally.{Tally}
 use Rattle.choice.proofs.Gathered.{parties-told}
-use Rattle.choice.proofs.MarkLaws.{marks-never, marks-alike, marks-or, marks-inside, marks-at}
+use Rattle.choice.proofs.Invited.{expected-told}
+use Rattle.choice.proofs.MarkLaws.{marks-never, marks-map, marks-alike, marks-or, marks-inside, marks-at}
 use Rattle.choice.proofs.CountLaws.{packed-add, limits-hold}
 
 -- ---- nobody is seated
@@ -43,9 +46,9 @@ unfolding packed
 packed-none [] = refl
 packed-none (q ∷ qs) = rw (packed-none qs)
 
-module _ (r : Roster) (c : Constraints) (s : TeamComposition) (queue : List ℕ) where
+module _ (r : Roster) (c : Constraints) (on : Bool) (s : TeamComposition) (es : List QueueEntry) where
   -- a match without players has the tally that says nothing
-  tally-none : Tallying r c s queue (lineup [] []) (noTally (sizesFit c s))
+  tally-none : Tallying r c on s es (lineup [] []) (noTally (sizesFit c s))
   unfolding seek keep
   tally-none =
       record {
@@ -53,13 +56,13 @@ module _ (r : Roster) (c : Constraints) (s : TeamComposition) (queue : List ℕ)
         among = tt;
         fine = sym (and-true (sizesFit c s));
         counts = sym (packed-none (required c));
-        present = sym (marks-never queue);
-        wanted = sym (marks-never queue);
-        barred = sym (marks-never queue);
+        present = sym (marks-never (playersOf es));
+        wanted = sym (marks-never es);
+        barred = sym (marks-never (playersOf es));
       }
 
   -- what the calls made of nobody starts a tally
-  pub tally-start : {t : Tally} {m : MatchState} → m ≡ lineup [] [] → t ≡ noTally (sizesFit c s) → Tallying r c s queue m t
+  pub tally-start : {t : Tally} {m : MatchState} → m ≡ lineup [] [] → t ≡ noTally (sizesFit c s) → Tallying r c on s es m t
   tally-start e f = rw (e, f) tally-none
 
 -- ---- one more player
@@ -95,12 +98,11 @@ module _ (r : Roster) (c : Constraints) (queue : List ℕ) (p : ℕ) (ps with : 
       ∙ marks-alike (λ q. member q ps || eqb q p) (λ q. member q with)
       (λ q. ap (λ (b : Bool). member q ps || b) (eqb-sym q p) ∙ rw e (sym (any-more (λ x. eqb x q) ps p))) queue
 
-  -- those who must be seated with them must be with one of the others or with the player
-  wanted-more : {n k : ℕ} → n ≡ marks (λ q. any (λ x. wants r c x q) ps) queue → k ≡ marks (wants r c p) queue → bitOr n k ≡ marks (λ q. any (λ x. wants r c x q) with) queue
-  wanted-more a b =
-      rw (a, b) (marks-or (λ q. any (λ x. wants r c x q) ps) (wants r c p) queue)
-      ∙ marks-alike (λ q. any (λ x. wants r c x q) ps || wants r c p q) (λ q. any (λ x. wants r c x q) with)
-      (λ q. rw e (sym (any-more (λ x. wants r c x q) ps p))) queue
+  -- whom a test holds of with one of them it holds of with one of the others or with the player
+  either-more : {A : Type 0} (f : ℕ → A → Bool) (xs : List A) {n k : ℕ} → n ≡ marks (λ a. any (λ x. f x a) ps) xs → k ≡ marks (f p) xs → bitOr n k ≡ marks (λ a. any (λ x. f x a) with) xs
+  either-more f xs a b =
+      rw (a, b) (marks-or (λ y. any (λ x. f x y) ps) (f p) xs)
+      ∙ marks-alike (λ y. any (λ x. f x y) ps || f p y) (λ y. any (λ x. f x y) with) (λ y. rw e (sym (any-more (λ x. f x y) ps p))) xs
 
 module _ (r : Roster) (c : Constraints) where
   -- may everyone of A play against everyone of B?
@@ -120,13 +122,6 @@ module _ (r : Roster) (c : Constraints) where
       ∙ ap (λ (b : Bool). meet us vs && b) (sym (none-passes (λ u. bars r c u p) us))
 
 module _ (r : Roster) (c : Constraints) (queue : List ℕ) where
-  -- with one more in A, who may not join B might not before or may not play against the player
-  barred-more : (us : List ℕ) (p : ℕ) {n k : ℕ} → n ≡ marks (λ q. any (λ u. bars r c u q) us) queue → k ≡ marks (bars r c p) queue → bitOr n k ≡ marks (λ q. any (λ u. bars r c u q) (us ++ (p ∷ []))) queue
-  barred-more us p a b =
-      rw (a, b) (marks-or (λ q. any (λ u. bars r c u q) us) (bars r c p) queue)
-      ∙ marks-alike (λ q. any (λ u. bars r c u q) us || bars r c p q) (λ q. any (λ u. bars r c u q) (us ++ (p ∷ [])))
-      (λ q. sym (any-more (λ u. bars r c u q) us p)) queue
-
   -- a player who waits is free to join B where nobody of A bars the player
   barred-at : (us : List ℕ) (p : ℕ) {n k : ℕ} → member p queue ≡ true → n ≡ marks (λ q. any (λ u. bars r c u q) us) queue → k ≡ marks (λ q. eqb q p) queue → eqb (bitAnd n k) 0 ≡ not (any (λ u. bars r c u p) us)
   barred-at us p h a b = rw (a, b) (marks-at (λ q. any (λ u. bars r c u q) us) p queue h)
@@ -151,12 +146,13 @@ module _ (r : Roster) (c : Constraints) (s : TeamComposition) (queue us vs : Lis
       rw (was, is, g, meet-more r c us vs p, admitted-more r c queue p (us ++ vs) with e)
       (fine-order (sizesFit c s) (every (admitted r c queue) (us ++ vs)) (meet r c us vs) (admitted r c queue p) (not (any (λ u. bars r c u p) us)))
 
-module _ (r : Roster) (c : Constraints) (s : TeamComposition) (queue : List ℕ) (m : MatchState) (t : Tally) (x : Sums) (p : ℕ) (cols : Columns) (i : ℕ) (tells : Tallying r c s queue m t) (fills : Summing r s m x) (a : s .a ≤ 8) (b : s .b ≤ 8)
-    (h : length (seated m) < seatsOf s) (waits : member p queue ≡ true) (says : Says r c queue cols i p) where
+module _ (r : Roster) (c : Constraints) (on : Bool) (s : TeamComposition) (es : List QueueEntry) (m : MatchState) (t : Tally) (x : Sums) (p : ℕ) (cols : Columns) (i : ℕ) (tells : Tallying r c on s es m t) (fills : Summing r s m x) (a : s .a ≤ 8) (b : s .b ≤ 8)
+    (h : length (seated m) < seatsOf s) (waits : member p (playersOf es) ≡ true) (says : Says r c on es cols i p) where
   -- the tally with one more player is that of the match with the player
-  pub tally-next : Tallying r c s queue (seatedNext s m p) (tallyWith t (ltb (length (m .a .players)) (s .a)) (getD (cols .admits) i false) (getD (cols .counts) i 0) (getD (cols .same) i 0) (getD (cols .friends) i 0) (getD (cols .foes) i 0))
+  pub tally-next : Tallying r c on s es (seatedNext s m p) (tallyWith t (ltb (length (m .a .players)) (s .a)) (getD (cols .admits) i false) (getD (cols .counts) i 0) (getD (cols .same) i 0) (getD (cols .expected) i 0) (getD (cols .foes) i 0))
   unfolding seatedNext tallyWith
   tally-next =
+      let queue = playersOf es in
       let us = m .a .players in
       let vs = m .b .players in
       let l = length-append (m .a .players) (m .b .players) in
@@ -172,8 +168,8 @@ module _ (r : Roster) (c : Constraints) (s : TeamComposition) (queue : List ℕ)
         fine = fine-a r c s queue us vs p (tells .fine) (says .admits) ((us ++ (p ∷ [])) ++ vs) e n;
         counts = counts-more r c queue p (us ++ vs) ((us ++ (p ∷ [])) ++ vs) e (tells .counts) (says .counts);
         present = present-more r c queue p (us ++ vs) ((us ++ (p ∷ [])) ++ vs) e (tells .present) (says .same);
-        wanted = wanted-more r c queue p (us ++ vs) ((us ++ (p ∷ [])) ++ vs) e (tells .wanted) (says .friends);
-        barred = barred-more r c queue us p (tells .barred) (says .foes);
+        wanted = either-more r c queue p (us ++ vs) ((us ++ (p ∷ [])) ++ vs) e (expects r c on es) es (tells .wanted) (says .expected);
+        barred = either-more r c queue p us (us ++ (p ∷ [])) refl (bars r c) queue (tells .barred) (says .foes);
       }))
       (λ f.
       let k : s .a ≤ length (m .a .players) = ltb-false (length (m .a .players)) (s .a) f in
@@ -185,13 +181,13 @@ module _ (r : Roster) (c : Constraints) (s : TeamComposition) (queue : List ℕ)
         fine = fine-b r c s queue us vs p (tells .fine) (says .admits) (us ++ (vs ++ (p ∷ []))) e (barred-at r c queue us p waits (tells .barred) (says .same));
         counts = counts-more r c queue p (us ++ vs) (us ++ (vs ++ (p ∷ []))) e (tells .counts) (says .counts);
         present = present-more r c queue p (us ++ vs) (us ++ (vs ++ (p ∷ []))) e (tells .present) (says .same);
-        wanted = wanted-more r c queue p (us ++ vs) (us ++ (vs ++ (p ∷ []))) e (tells .wanted) (says .friends);
+        wanted = either-more r c queue p (us ++ vs) (us ++ (vs ++ (p ∷ []))) e (expects r c on es) es (tells .wanted) (says .expected);
         barred = tells .barred;
       }))
 
   -- and so is what the calls made of it that of what they made of the match
   pub tally-with : {first : Bool} {with : MatchState} {next : Tally} → first ≡ ltb (length (m .a .players)) (s .a) → with ≡ seatedNext s m p
-      → next ≡ tallyWith t first (getD (cols .admits) i false) (getD (cols .counts) i 0) (getD (cols .same) i 0) (getD (cols .friends) i 0) (getD (cols .foes) i 0) → Tallying r c s queue with next
+      → next ≡ tallyWith t first (getD (cols .admits) i false) (getD (cols .counts) i 0) (getD (cols .same) i 0) (getD (cols .expected) i 0) (getD (cols .foes) i 0) → Tallying r c on s es with next
   tally-with e f g = rw (f, g, e) tally-next
 
 -- ---- the other constraints, if they are brought
@@ -219,14 +215,23 @@ module _ (r : Roster) where
 -- ---- at the last seat
 
 -- the same tests in another order, two of them as one
-last-order : (s a p x w l : Bool) → ((s && ((a && p) && x)) && (w && l)) ≡ (s && (l && ((p && w) && (a && x))))
-last-order false a p x w l = refl
-last-order true false p x w l = sym (ap (λ (b : Bool). l && b) (and-false (p && w)) ∙ and-false l)
-last-order true true false x w l = sym (and-false l)
-last-order true true true false w l = sym (ap (λ (b : Bool). l && b) (and-false w) ∙ and-false l)
-last-order true true true true w l = and-comm w l ∙ ap (λ (b : Bool). l && b) (sym (and-true w))
+five-order : (s a p x w l : Bool) → ((s && ((a && p) && x)) && (w && l)) ≡ (s && (l && ((p && w) && (a && x))))
+five-order false a p x w l = refl
+five-order true false p x w l = sym (ap (λ (b : Bool). l && b) (and-false (p && w)) ∙ and-false l)
+five-order true true false x w l = sym (and-false l)
+five-order true true true false w l = sym (ap (λ (b : Bool). l && b) (and-false w) ∙ and-false l)
+five-order true true true true w l = and-comm w l ∙ ap (λ (b : Bool). l && b) (sym (and-true w))
 
-module _ (r : Roster) (c : Constraints) (s : TeamComposition) (queue : List ℕ) (m : MatchState) (t : Tally) (tells : Tallying r c s queue m t) (a : length (m .a .players) ≡ s .a) (b : length (m .b .players) ≡ s .b) where
+-- and one more of them behind the others
+last-order : (s a p x w v l : Bool) → ((s && ((a && p) && x)) && ((w && v) && l)) ≡ ((s && (l && ((p && w) && (a && x)))) && v)
+last-order s a p x w true l =
+    ap (λ (b : Bool). (s && ((a && p) && x)) && (b && l)) (and-true w) ∙ five-order s a p x w l ∙ sym (and-true (s && (l && ((p && w) && (a && x)))))
+last-order s a p x w false l =
+    ap (λ (b : Bool). (s && ((a && p) && x)) && (b && l)) (and-false w)
+    ∙ and-false (s && ((a && p) && x))
+    ∙ sym (and-false (s && (l && ((p && w) && (a && x)))))
+
+module _ (r : Roster) (c : Constraints) (on : Bool) (s : TeamComposition) (es : List QueueEntry) (m : MatchState) (t : Tally) (tells : Tallying r c on s es m t) (a : length (m .a .players) ≡ s .a) (b : length (m .b .players) ≡ s .b) where
   -- the sizes of a full match are those of the table
   sizes-told : sizesFit c s ≡ (not (c .brought .sizes) || sizesHold (c .sizes) m)
   sizes-told =
@@ -235,11 +240,11 @@ module _ (r : Roster) (c : Constraints) (s : TeamComposition) (queue : List ℕ)
       rw (x, y)
 
   -- all is fine where sizes, ratings and regions hold and the rows of the parties wait
-  fine-told : t .fine ≡ ((not (c .brought .sizes) || sizesHold (c .sizes) m) && (((not (c .brought .latency) || latencyHolds r m) && every (λ p. partyTogether r queue (partyIn r c p)) (seated m)) && (not (c .brought .regions) || regionsHold r (c .regions) m)))
+  fine-told : t .fine ≡ ((not (c .brought .sizes) || sizesHold (c .sizes) m) && (((not (c .brought .latency) || latencyHolds r m) && every (λ p. partyTogether r (playersOf es) (partyIn r c p)) (seated m)) && (not (c .brought .regions) || regionsHold r (c .regions) m)))
   fine-told =
       rw (
         tells .fine,
-        every-both (λ p. not (c .brought .latency) || aboveZero (ratingOf r p)) (λ p. partyTogether r queue (partyIn r c p)) (seated m),
+        every-both (λ p. not (c .brought .latency) || aboveZero (ratingOf r p)) (λ p. partyTogether r (playersOf es) (partyIn r c p)) (seated m),
         sizes-told,
         ratings-told r (c .brought .latency) (seated m),
         regions-told r (c .brought .regions) (pairsOf (c .regions)) (m .a .players) (m .b .players),
@@ -251,12 +256,16 @@ module _ (r : Roster) (c : Constraints) (s : TeamComposition) (queue : List ℕ)
       rw (e, tells .counts) (limits-hold r (required c) (seated m) (omega (arith, length-append (m .a .players) (m .b .players))))
       ∙ roles-told r (c .brought .roles) (requirementsOf (c .roles)) (seated m)
 
-  -- the tally of a full match tells whether the constraints hold
-  pub tally-fits : rulesCheck r ≡ gives tt → s .a ≤ 8 → s .b ≤ 8 → {bounds : Bounds} → bounds ≡ boundsOf (required c) → fits bounds t ≡ constraintsHold r c m
+  -- the tally of a full match tells whether the constraints hold and, if they are brought, all friends who wait are seated
+  pub tally-fits : rulesCheck r ≡ gives tt → s .a ≤ 8 → s .b ≤ 8 → {bounds : Bounds} → bounds ≡ boundsOf (required c) → fits bounds t ≡ (constraintsHold r c m && (not on || friendsSeated es m))
   unfolding fits
   tally-fits checked x y e =
       let d = Distinct-of (r .ids) (passed-distinct (r .ids) (length (r .ratings) ∷ length (r .parties) ∷ length (r .roles) ∷ length (r .regions) ∷ []) (r .regions) Passed refl (sym checked)) in
+      let queue = playersOf es in
       let w = every (λ q. not (any (λ p. wants r c p q) (seated m)) || member q (seated m)) queue in
-      let g : eqb (bitAnd (t .wanted) (t .present)) (t .wanted) ≡ w = rw (tells .wanted, tells .present) (marks-inside (λ q. any (λ p. wants r c p q) (seated m)) (λ q. member q (seated m)) queue) in
+      let g : eqb (bitAnd (t .wanted) (t .present)) (t .wanted) ≡ (w && (not on || friendsSeated es m)) =
+      rw (tells .wanted, tells .present, marks-map (λ q. member q (seated m)) (λ (e : QueueEntry). e .player) es)
+      (marks-inside (λ e. any (λ p. expects r c on es p e) (seated m)) (λ e. member (e .player) (seated m)) es)
+      ∙ expected-told es (seated m) (wants r c) on in
       rw (fine-told, g, roles-limited x y e, ← parties-told r queue (seated m) d (tells .among) (c .brought .parties))
-      (last-order (not (c .brought .sizes) || sizesHold (c .sizes) m) (not (c .brought .latency) || latencyHolds r m) (every (λ p. partyTogether r queue (partyIn r c p)) (seated m)) (not (c .brought .regions) || regionsHold r (c .regions) m) w (not (c .brought .roles) || rolesHold r (c .roles) m))
+      (last-order (not (c .brought .sizes) || sizesHold (c .sizes) m) (not (c .brought .latency) || latencyHolds r m) (every (λ p. partyTogether r queue (partyIn r c p)) (seated m)) (not (c .brought .regions) || regionsHold r (c .regions) m) w (not on || friendsSeated es m) (not (c .brought .roles) || rolesHold r (c .roles) m))

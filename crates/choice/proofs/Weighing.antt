@@ -46,7 +46,7 @@ occupied-many : (score : MatchState → Float) (m : MatchState) (ms : List Match
 occupied-many score m [] = refl
 occupied-many score m (n ∷ ms) = lt-ltb 1 (length (map score (m ∷ n ∷ ms))) (omega arith)
 
-module _ (t : Terms) where
+module _ (t : Terms) (queue : List QueueEntry) where
   -- a match with its score
   abbrev scored : MatchState → Scored
   scored m = record { teams = m; score = scoreIn t m }
@@ -56,12 +56,12 @@ module _ (t : Terms) where
   better-scored b m = cases (lt (scoreIn t m) (scoreIn t b)) (λ e. rw e) (λ e. rw e)
 
   -- one more choice that passes is weighed against the best
-  pub weighed-passed : (b : SoFar) (m : MatchState) → passes t m ≡ true → weighed t b m ≡ passed b m (scoreIn t m)
+  pub weighed-passed : (b : SoFar) (m : MatchState) → passes t queue m ≡ true → weighed t queue b m ≡ passed b m (scoreIn t m)
   unfolding weighed
   weighed-passed b m y = rw y
 
   -- one more that does not pass is only counted
-  pub weighed-skipped : (b : SoFar) (m : MatchState) → passes t m ≡ false → weighed t b m ≡ skipped b
+  pub weighed-skipped : (b : SoFar) (m : MatchState) → passes t queue m ≡ false → weighed t queue b m ≡ skipped b
   unfolding weighed
   weighed-skipped b m f = rw f
 
@@ -88,7 +88,7 @@ module _ (t : Terms) where
 
   -- b is the best so far: what these matches add
   weighed-more : (ms : List MatchState) (n : ℕ) (b : MatchState) (many nan : Bool)
-      → foldl (weighed t) (record { tried = n; best = some (scored b); many = many; nan = nan }) ms ≡ known (n + length ms) b many nan (keep (passes t) ms)
+      → foldl (weighed t queue) (record { tried = n; best = some (scored b); many = many; nan = nan }) ms ≡ known (n + length ms) b many nan (keep (passes t queue) ms)
   unfolding keep
   weighed-more [] n b many nan =
       let e : n + 0 ≡ n = omega arith in
@@ -96,15 +96,15 @@ module _ (t : Terms) where
   weighed-more (m ∷ ms) n b many nan =
       let e : n + 1 + length ms ≡ n + length (m ∷ ms) = omega arith in
       let p : SoFar = record { tried = n; best = some (scored b); many = many; nan = nan } in
-      let k = keep (passes t) ms in
-      cases (passes t m)
+      let k = keep (passes t queue) ms in
+      cases (passes t queue m)
       (λ y.
-      ap (λ (q : SoFar). foldl (weighed t) q ms)
+      ap (λ (q : SoFar). foldl (weighed t queue) q ms)
       (weighed-passed p m y ∙ ap (λ (x : Scored). record { tried = n + 1; best = some x; many = many || true; nan = nan || isNan (scoreIn t m) }) (better-scored b m))
       ∙ weighed-more ms (n + 1) (better (scoreIn t) b m) (many || true) (nan || isNan (scoreIn t m))
       ∙ known-more (n + 1 + length ms) b m many nan k
       ∙ rw (e, y))
-      (λ f. ap (λ (q : SoFar). foldl (weighed t) q ms) (weighed-skipped p m f) ∙ weighed-more ms (n + 1) b many nan ∙ rw (e, f))
+      (λ f. ap (λ (q : SoFar). foldl (weighed t queue) q ms) (weighed-skipped p m f) ∙ weighed-more ms (n + 1) b many nan ∙ rw (e, f))
 
   -- what is known when n were tried and these passed
   abbrev seen : ℕ → List MatchState → SoFar
@@ -112,19 +112,19 @@ module _ (t : Terms) where
   seen n (m ∷ ms) = known n m false (isNan (scoreIn t m)) ms
 
   -- none passed so far: what these matches come to
-  weighed-all : (ms : List MatchState) (n : ℕ) → foldl (weighed t) (seen n []) ms ≡ seen (n + length ms) (keep (passes t) ms)
+  weighed-all : (ms : List MatchState) (n : ℕ) → foldl (weighed t queue) (seen n []) ms ≡ seen (n + length ms) (keep (passes t queue) ms)
   unfolding keep
   weighed-all [] n =
       let e : n + 0 ≡ n = omega arith in
       rw e
   weighed-all (m ∷ ms) n =
       let e : n + 1 + length ms ≡ n + length (m ∷ ms) = omega arith in
-      cases (passes t m)
+      cases (passes t queue m)
       (λ y.
-      ap (λ (q : SoFar). foldl (weighed t) q ms) (weighed-passed (seen n []) m y)
+      ap (λ (q : SoFar). foldl (weighed t queue) q ms) (weighed-passed (seen n []) m y)
       ∙ weighed-more ms (n + 1) m false (isNan (scoreIn t m))
       ∙ rw (e, y))
-      (λ f. ap (λ (q : SoFar). foldl (weighed t) q ms) (weighed-skipped (seen n []) m f) ∙ weighed-all ms (n + 1) ∙ rw (e, f))
+      (λ f. ap (λ (q : SoFar). foldl (weighed t queue) q ms) (weighed-skipped (seen n []) m f) ∙ weighed-all ms (n + 1) ∙ rw (e, f))
 
   -- the conclusion from it: refusal 5, or the last of the best of those that passed
   concluding-seen : (n : ℕ) (ms : List MatchState) → concluding (seen n ms) ≡ cond (unrankable (map (scoreIn t) ms)) (refused 5) (gives (record { best = bestAmong (scoreIn t) ms; tried = n }))
@@ -134,9 +134,9 @@ module _ (t : Terms) where
 
 -- the best kept while all choices are walked, from nobody seated, is what the full round chooses
 pub best-plain : (t : Terms) (s : TeamComposition) (queue : List QueueEntry) → s .a ≤ 8 → s .b ≤ 8
-    → concluding (through s (weighed t) (lineup [] []) (seatsOf s) (map (λ e. e .player) queue) unweighed) ≡ chosen t s queue
+    → concluding (through s (weighed t queue) (lineup [] []) (seatsOf s) (map (λ e. e .player) queue) unweighed) ≡ chosen t s queue
 best-plain t s queue h g =
-    ap concluding (through-split s (weighed t) queue unweighed h g)
-    ∙ ap concluding (weighed-all t (exhaustiveMatches s queue) 0)
-    ∙ concluding-seen t (0 + length (exhaustiveMatches s queue)) (passing t s queue)
+    ap concluding (through-split s (weighed t queue) queue unweighed h g)
+    ∙ ap concluding (weighed-all t queue (exhaustiveMatches s queue) 0)
+    ∙ concluding-seen t queue (0 + length (exhaustiveMatches s queue)) (passing t s queue)
     ∙ rw (zero-add (length (exhaustiveMatches s queue)), listing-count s queue)

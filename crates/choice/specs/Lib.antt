@@ -1,5 +1,7 @@
+pub mod Friends
 pub mod Full
 pub mod Reading
 pub mod Steps
 pub mod Sums
 pub mod Tallies
+pub mod WaitingFriends

@@ -5,6 +5,7 @@ use mathlib.Core.Path.{_≡_}
 use mathlib.Core.Bool.{Bool, true, false, not, cond, _&&_, _||_}
 use mathlib.Core.List.{List, [], _∷_, map}
 use mathlib.Core.Option.{Option·getD}
+use lib.Bits.{bitOr}
 use lib.Dec.{eqb, ltb, leb}
 use lib.Ieee.{Float, nan}
 use lib.ListN.{length, take, getD}
@@ -12,11 +13,13 @@ use Rattle.base.specs.Floats as Floats
 use Rattle.base.specs.Lists.{isSome}
 use Rattle.base.specs.Refusals.{gives}
 use Rattle.roster.specs.Roster.{Roster, rulesCheck, ratingOf, partyOf, regionOf}
+use Rattle.queue.specs.declared.QueueEntry.{QueueEntry}
 use Rattle.constraint.specs.declared.Constraints.{Constraints}
 use Rattle.constraint.specs.declared.roles.Maximum.{Maximum}
 use Rattle.constraint.specs.declared.roles.Maximum.the-variants.{Unbounded, AtMost}
 use Rattle.constraint.specs.declared.roles.RoleRequirement.{RoleRequirement}
 use Rattle.constraint.specs.Constraints.{aboveZero, partyTogether, mayMeet, pairsOf, hasRole, requirementsOf}
+use Rattle.choice.specs.Friends.{waitsIn}
 use Rattle.choice.specs.declared.tally.Bounds.{Bounds}
 
 -- ---- sets and counts as numbers
@@ -31,11 +34,20 @@ unfoldable pub packed : List ℕ → ℕ
 packed [] = 0
 packed (n ∷ ns) = packed ns * 256 + n
 
+-- the sets of the places that have this number, together
+unfoldable pub pooled : ℕ → List ℕ → List ℕ → ℕ
+pooled k [] sets = 0
+pooled k (n ∷ ns) [] = 0
+pooled k (n ∷ ns) (x ∷ sets) = cond (eqb n k) (bitOr x (pooled k ns sets)) (pooled k ns sets)
+
 -- eight counts of 1
 abbrev pub oneEach : ℕ
 oneEach = 0x0101_0101_0101_0101
 
 -- ---- what the constraints ask of a place; a kind that is not brought asks nothing
+
+abbrev pub playersOf : List QueueEntry → List ℕ
+playersOf = map (λ e. e .player)
 
 -- the party and the region that count
 abbrev pub partyIn : Roster → Constraints → ℕ → ℕ
@@ -48,9 +60,17 @@ regionIn r c p = cond (c .brought .regions) (regionOf r p) 4
 abbrev pub admitted : Roster → Constraints → List ℕ → ℕ → Bool
 admitted r c queue p = (not (c .brought .latency) || aboveZero (ratingOf r p)) && partyTogether r queue (partyIn r c p)
 
--- must q be seated where p is?
+-- must q be seated where p is, by the roster's parties?
 abbrev pub wants : Roster → Constraints → ℕ → ℕ → Bool
 wants r c p q = not (eqb (partyIn r c p) 0) && eqb (partyIn r c q) (partyIn r c p)
+
+-- must whoever waits with entry e be seated where p is, as a friend who waits?
+abbrev pub invites : Bool → List QueueEntry → ℕ → QueueEntry → Bool
+invites on es p e = on && (not (eqb (e .party) 0) && waitsIn es (e .party) p)
+
+-- by one or the other?
+abbrev pub expects : Roster → Constraints → Bool → List QueueEntry → ℕ → QueueEntry → Bool
+expects r c on es p e = wants r c p (e .player) || invites on es p e
 
 -- may q not play against p?
 abbrev pub bars : Roster → Constraints → ℕ → ℕ → Bool
@@ -98,11 +118,11 @@ pub record Columns : Type 0 where
   pub admits : List Bool
   pub counts : List ℕ
   pub same : List ℕ
-  pub friends : List ℕ
+  pub expected : List ℕ
   pub foes : List ℕ
 
 abbrev pub columns : List ℕ → List Bool → List Float → List Bool → List ℕ → List ℕ → List ℕ → List ℕ → Columns
-columns queued rows rated admits counts same friends foes =
+columns queued rows rated admits counts same expected foes =
     record {
       queued = queued;
       rows = rows;
@@ -110,22 +130,23 @@ columns queued rows rated admits counts same friends foes =
       admits = admits;
       counts = counts;
       same = same;
-      friends = friends;
+      expected = expected;
       foes = foes;
     }
 
 -- what they say of player p at place i
-pub record Says (r : Roster) (c : Constraints) (queue : List ℕ) (x : Columns) (i p : ℕ) : Type 0 where
+pub record Says (r : Roster) (c : Constraints) (on : Bool) (es : List QueueEntry) (x : Columns) (i p : ℕ) : Type 0 where
   pub row : getD (x .rows) i false ≡ isSome (ratingOf r p)
   pub rating : getD (x .rated) i nan ≡ Option·getD (ratingOf r p) Floats.zero
-  pub admits : getD (x .admits) i false ≡ admitted r c queue p
+  pub admits : getD (x .admits) i false ≡ admitted r c (playersOf es) p
   pub counts : getD (x .counts) i 0 ≡ packed (map (countsFor r p) (required c))
-  pub same : getD (x .same) i 0 ≡ marks (λ q. eqb q p) queue
-  pub friends : getD (x .friends) i 0 ≡ marks (wants r c p) queue
-  pub foes : getD (x .foes) i 0 ≡ marks (bars r c p) queue
+  pub same : getD (x .same) i 0 ≡ marks (λ q. eqb q p) (playersOf es)
+  pub expected : getD (x .expected) i 0 ≡ marks (expects r c on es p) es
+  pub foes : getD (x .foes) i 0 ≡ marks (bars r c p) (playersOf es)
 
--- the columns and bounds of n places stand for a roster, which passed its check, and for constraints
-pub record StandFor (r : Roster) (c : Constraints) (n : ℕ) (x : Columns) (b : Bounds) : Type 0 where
+-- the columns and bounds stand for a roster, which passed its check, for constraints, and for these entries
+pub record StandFor (r : Roster) (c : Constraints) (on : Bool) (es : List QueueEntry) (x : Columns) (b : Bounds) : Type 0 where
   pub checked : rulesCheck r ≡ gives tt
   pub bounds : b ≡ boundsOf (required c)
-  pub says : (i : ℕ) → i < n → Says r c (take n (x .queued)) x i (getD (x .queued) i 0)
+  pub queued : take (length es) (x .queued) ≡ playersOf es
+  pub says : (i : ℕ) → i < length es → Says r c on es x i (getD (x .queued) i 0)

@@ -1,10 +1,12 @@
 -- The best so far while the choices are walked, as the code keeps it. No public contract cites this.
 use Prim.Native.Nat.{ℕ, _+_}
 use mathlib.Core.Bool.{Bool, false, cond, _&&_, _||_}
+use mathlib.Core.List.{List}
 use mathlib.Core.Option.{Option, none, some}
 use lib.Ieee.{Float, lt, isNan}
 use Rattle.base.specs.Lists.{isSome}
 use Rattle.base.specs.Refusals.{Outcome, refused, gives}
+use Rattle.queue.specs.declared.QueueEntry.{QueueEntry}
 use Rattle.matchmaker.specs.Quality.{MatchState, matchOf}
 use Rattle.seating.specs.Steps.{Scored}
 use Rattle.choice.specs.Full.{Terms, Selection, passes, scoreIn}
@@ -51,8 +53,9 @@ skipped b = record { tried = b .tried + 1; best = b .best; many = b .many; nan =
 abbrev pub skippedBy : ℕ → SoFar → SoFar
 skippedBy n b = record { tried = b .tried + n; best = b .best; many = b .many; nan = b .nan }
 
-unfoldable pub weighed : Terms → SoFar → MatchState → SoFar
-weighed t b m = cond (passes t m) (passed b m (scoreIn t m)) (skipped b)
+-- one more choice among these who wait
+unfoldable pub weighed : Terms → List QueueEntry → SoFar → MatchState → SoFar
+weighed t queue b m = cond (passes t queue m) (passed b m (scoreIn t m)) (skipped b)
 
 -- what all choices come to
 abbrev pub teamsIn : Option Scored → Option MatchState

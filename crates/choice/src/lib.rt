@@ -28,6 +28,7 @@ use objective::soft::SoftObjective;
 use queue::Queue;
 use seating::TeamComposition;
 
+mod friends;
 mod marks;
 mod tally;
 
@@ -238,7 +239,7 @@ fn seat_last(
     admits: &[bool; 64],
     counts: &[u64; 64],
     same: &[u64; 64],
-    friends: &[u64; 64],
+    expected: &[u64; 64],
     foes: &[u64; 64],
     from: usize,
     rest: usize,
@@ -254,7 +255,7 @@ fn seat_last(
     requires { ⌜ length (now queued) ≡ 64 ⌝ }
     requires { ⌜ best .tried + ways rest 1 < 2 ^ 64 ⌝ }
     requires { ⌜ (tally .counts + 1 * oneEach < 2 ^ 64) × ((i : ℕ) → getD (now counts) i 0 ≤ oneEach) ⌝ }
-    ensures { λ r. ⌜ (r .tried ≡ best .tried + ways rest 1) × Walked sizes (columns (now (queued .entry)) (now (rows .entry)) (now (rated .entry)) (now (admits .entry)) (now (counts .entry)) (now (same .entry)) (now (friends .entry)) (now (foes .entry))) bounds from rest 1 (matchOf teams) sums tally objectives count (soFarOf best) (soFarOf r) ⌝ }
+    ensures { λ r. ⌜ (r .tried ≡ best .tried + ways rest 1) × Walked sizes (columns (now (queued .entry)) (now (rows .entry)) (now (rated .entry)) (now (admits .entry)) (now (counts .entry)) (now (same .entry)) (now (expected .entry)) (now (foes .entry))) bounds from rest 1 (matchOf teams) sums tally objectives count (soFarOf best) (soFarOf r) ⌝ }
 {
     let first = is_a_short(sizes, teams);
     let mut out = best;
@@ -268,7 +269,7 @@ fn seat_last(
             at += 1;
             left -= 1;
         } else {
-            let full = tally::tally_with(tally, first, admits, counts, same, friends, foes, at);
+            let full = tally::tally_with(tally, first, admits, counts, same, expected, foes, at);
             let passes = tally::passes(bounds, full);
             let with = candidate::exhaustive::seat(sizes, teams, queued[at]);
             out = weigh(out, passes, with, score);
@@ -289,7 +290,7 @@ fn seat_two(
     admits: &[bool; 64],
     counts: &[u64; 64],
     same: &[u64; 64],
-    friends: &[u64; 64],
+    expected: &[u64; 64],
     foes: &[u64; 64],
     from: usize,
     rest: usize,
@@ -305,7 +306,7 @@ fn seat_two(
     requires { ⌜ length (now queued) ≡ 64 ⌝ }
     requires { ⌜ best .tried + ways rest 2 < 2 ^ 64 ⌝ }
     requires { ⌜ (tally .counts + 2 * oneEach < 2 ^ 64) × ((i : ℕ) → getD (now counts) i 0 ≤ oneEach) ⌝ }
-    ensures { λ r. ⌜ (r .tried ≡ best .tried + ways rest 2) × Walked sizes (columns (now (queued .entry)) (now (rows .entry)) (now (rated .entry)) (now (admits .entry)) (now (counts .entry)) (now (same .entry)) (now (friends .entry)) (now (foes .entry))) bounds from rest 2 (matchOf teams) sums tally objectives count (soFarOf best) (soFarOf r) ⌝ }
+    ensures { λ r. ⌜ (r .tried ≡ best .tried + ways rest 2) × Walked sizes (columns (now (queued .entry)) (now (rows .entry)) (now (rated .entry)) (now (admits .entry)) (now (counts .entry)) (now (same .entry)) (now (expected .entry)) (now (foes .entry))) bounds from rest 2 (matchOf teams) sums tally objectives count (soFarOf best) (soFarOf r) ⌝ }
 {
     let first = is_a_short(sizes, teams);
     let second = is_a_short_by_two(sizes, teams);
@@ -333,7 +334,7 @@ fn seat_two(
             behind -= 1;
         } else {
             let with = candidate::exhaustive::seat(sizes, teams, queued[at]);
-            let grown = tally::tally_with(tally, first, admits, counts, same, friends, foes, at);
+            let grown = tally::tally_with(tally, first, admits, counts, same, expected, foes, at);
             out = seat_last(
                 sizes,
                 queued,
@@ -342,7 +343,7 @@ fn seat_two(
                 admits,
                 counts,
                 same,
-                friends,
+                expected,
                 foes,
                 at + 1,
                 behind - 1,
@@ -371,7 +372,7 @@ fn walk(
     admits: &[bool; 64],
     counts: &[u64; 64],
     same: &[u64; 64],
-    friends: &[u64; 64],
+    expected: &[u64; 64],
     foes: &[u64; 64],
     from: usize,
     rest: usize,
@@ -388,7 +389,7 @@ fn walk(
     requires { ⌜ length (now queued) ≡ 64 ⌝ }
     requires { ⌜ best .tried + ways rest left < 2 ^ 64 ⌝ }
     requires { ⌜ (tally .counts + left * oneEach < 2 ^ 64) × ((i : ℕ) → getD (now counts) i 0 ≤ oneEach) ⌝ }
-    ensures { λ r. ⌜ (r .tried ≡ best .tried + ways rest left) × Walked sizes (columns (now (queued .entry)) (now (rows .entry)) (now (rated .entry)) (now (admits .entry)) (now (counts .entry)) (now (same .entry)) (now (friends .entry)) (now (foes .entry))) bounds from rest left (matchOf teams) sums tally objectives count (soFarOf best) (soFarOf r) ⌝ }
+    ensures { λ r. ⌜ (r .tried ≡ best .tried + ways rest left) × Walked sizes (columns (now (queued .entry)) (now (rows .entry)) (now (rated .entry)) (now (admits .entry)) (now (counts .entry)) (now (same .entry)) (now (expected .entry)) (now (foes .entry))) bounds from rest left (matchOf teams) sums tally objectives count (soFarOf best) (soFarOf r) ⌝ }
 {
     if rest < left {
         return best;
@@ -406,7 +407,7 @@ fn walk(
             admits,
             counts,
             same,
-            friends,
+            expected,
             foes,
             from,
             rest,
@@ -422,7 +423,7 @@ fn walk(
     let first = is_a_short(sizes, teams);
     let with = candidate::exhaustive::seat(sizes, teams, queued[from]);
     let next = sums_with(sums, first, rows[from], rated[from]);
-    let grown = tally::tally_with(tally, first, admits, counts, same, friends, foes, from);
+    let grown = tally::tally_with(tally, first, admits, counts, same, expected, foes, from);
     let mid = walk(
         sizes,
         queued,
@@ -431,7 +432,7 @@ fn walk(
         admits,
         counts,
         same,
-        friends,
+        expected,
         foes,
         from + 1,
         rest - 1,
@@ -455,7 +456,7 @@ fn walk(
         admits,
         counts,
         same,
-        friends,
+        expected,
         foes,
         from + 1,
         rest - 1,
@@ -604,6 +605,7 @@ fn best_of(
     queue: Queue,
     sizes: TeamComposition,
     constraints: Constraints,
+    friends: bool,
     objectives: [SoftObjective; 8],
     count: usize,
     ids: &[u64],
@@ -613,7 +615,7 @@ fn best_of(
     regions: &[u8],
 ) -> Best
     requires { ⌜ choiceCheck (ofRules (now ids) (now ratings) (now parties) (now roles) (now regions)) constraints count sizes (queueOf queue) ≡ gives tt ⌝ }
-    ensures { λ r. ⌜ soFarOf r ≡ through sizes (weighed (terms (ofRules (now (ids .entry)) (now (ratings .entry)) (now (parties .entry)) (now (roles .entry)) (now (regions .entry))) constraints objectives count)) (lineup [] []) (seatsOf sizes) (take (queue .len) (map (λ e. e .player) (queue .entries))) unweighed ⌝ }
+    ensures { λ r. ⌜ soFarOf r ≡ through sizes (weighed (terms (ofRules (now (ids .entry)) (now (ratings .entry)) (now (parties .entry)) (now (roles .entry)) (now (regions .entry))) constraints friends objectives count) (take (queue .len) (queue .entries))) (lineup [] []) (seatsOf sizes) (take (queue .len) (map (λ e. e .player) (queue .entries))) unweighed ⌝ }
 {
     let n = queue.len;
     let column = queue.players();
@@ -628,7 +630,8 @@ fn best_of(
     let counts = marks::counts_of(required, &queued, n, ids, roles);
     let same = marks::same_of(&queued, n);
     let party = marks::parties_of(brought.parties, &queued, n, ids, parties);
-    let friends = marks::friends_of(&party, n);
+    let partners = marks::partners_of(&party, n);
+    let expected = friends::with_waiting(friends, queue, &queued, partners);
     let region = marks::regions_of(brought.regions, &queued, n, ids, regions);
     let foes = marks::foes_of(constraints.regions, &region, n);
     walk(
@@ -639,7 +642,7 @@ fn best_of(
         &admits,
         &counts,
         &same,
-        &friends,
+        &expected,
         &foes,
         0,
         n,
@@ -654,11 +657,12 @@ fn best_of(
     )
 }
 
-// The best choice of A + B players of the queue, if one passes.
+// The best choice of A + B players of the queue, if one passes. Waiting friends are brought or not, beside the constraints.
 pub fn best_choice(
     queue: Queue,
     sizes: TeamComposition,
     constraints: Constraints,
+    friends: bool,
     objectives: [SoftObjective; 8],
     count: usize,
     ids: &[u64],
@@ -667,7 +671,7 @@ pub fn best_choice(
     roles: &[u32],
     regions: &[u8],
 ) -> Choice
-    ensures { λ r. ⌜ ChoiceParts (choiceRule (terms (ofRules (now (ids .entry)) (now (ratings .entry)) (now (parties .entry)) (now (roles .entry)) (now (regions .entry))) constraints objectives count) sizes (queueOf queue)) r ⌝ }
+    ensures { λ r. ⌜ ChoiceParts (choiceRule (terms (ofRules (now (ids .entry)) (now (ratings .entry)) (now (parties .entry)) (now (roles .entry)) (now (regions .entry))) constraints friends objectives count) sizes (queueOf queue)) r ⌝ }
 {
     if let Checked::Refused(refusal) = check(
         queue,
@@ -686,6 +690,7 @@ pub fn best_choice(
         queue,
         sizes,
         constraints,
+        friends,
         objectives,
         count,
         ids,

@@ -67,7 +67,7 @@ fn partners(parties: &[u64; 64], n: usize, party: u64) -> u64
 }
 
 // For each place those of the same party.
-pub(crate) fn friends_of(parties: &[u64; 64], n: usize) -> [u64; 64]
+pub(crate) fn partners_of(parties: &[u64; 64], n: usize) -> [u64; 64]
     requires { ⌜ (n ≤ 64) × (length (now parties) ≡ 64) ⌝ }
     ensures { λ r. ⌜ take n r ≡ map (λ p. marks (λ q. not (eqb p 0) && eqb q p) (take n (now (parties .entry)))) (take n (now (parties .entry))) ⌝ }
 {

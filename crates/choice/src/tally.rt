@@ -48,18 +48,18 @@ pub(crate) fn tally_with(
     admits: &[bool; 64],
     counts: &[u64; 64],
     same: &[u64; 64],
-    friends: &[u64; 64],
+    expected: &[u64; 64],
     foes: &[u64; 64],
     at: usize,
 ) -> Tally
     requires { ⌜ (at < 64) × (tally .counts + getD (now counts) at 0 < 2 ^ 64) ⌝ }
-    ensures { λ r. ⌜ r ≡ tallyWith tally first (getD (now (admits .entry)) at false) (getD (now (counts .entry)) at 0) (getD (now (same .entry)) at 0) (getD (now (friends .entry)) at 0) (getD (now (foes .entry)) at 0) ⌝ }
+    ensures { λ r. ⌜ r ≡ tallyWith tally first (getD (now (admits .entry)) at false) (getD (now (counts .entry)) at 0) (getD (now (same .entry)) at 0) (getD (now (expected .entry)) at 0) (getD (now (foes .entry)) at 0) ⌝ }
 {
     let free = tally.barred & same[at] == 0;
     let fine = tally.fine & (admits[at] & (first | free));
     let total = tally.counts + counts[at];
     let present = tally.present | same[at];
-    let wanted = tally.wanted | friends[at];
+    let wanted = tally.wanted | expected[at];
     if first {
         return Tally {
             fine: fine,

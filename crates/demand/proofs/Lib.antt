@@ -8,4 +8,5 @@ pub mod Origin
 pub mod First
 pub mod Count
 pub mod Demand
+pub mod Friends
 pub mod Runs

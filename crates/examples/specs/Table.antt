@@ -3,7 +3,7 @@ use Prim.Native.Nat.{ℕ, _-_}
 use mathlib.Core.Path.{_≡_, refl}
 use mathlib.Core.Bool.{Bool, true, false}
 use mathlib.Core.List.{List, [], _∷_, _++_, map}
-use mathlib.Core.Option.{some}
+use mathlib.Core.Option.{Option, none, some}
 use lib.Ieee.{Float, nan, inf, binary64, add, sub, mul, div, lt, le, eq, ne, isNan, round, ofInt, ofBits}
 use lib.ListN.{length, take, replicate}
 use Rattle.base.specs.Floats.{zero, one, absOf, minOf}
@@ -25,6 +25,7 @@ use Rattle.seating.specs.declared.TeamComposition.{TeamComposition}
 use Rattle.seating.specs.Seating.{Sheets, lineup, seats}
 use Rattle.seating.specs.Turns.{grown}
 use Rattle.constraint.specs.declared.Constraints.{Constraints}
+use Rattle.constraint.specs.Constraints.{partySeated}
 use Rattle.candidate.specs.Choices.{choices, ways}
 use Rattle.candidate.specs.Exhaustive.{exhaustiveMatches}
 use Rattle.choice.specs.Full.{terms, chosen}
@@ -86,15 +87,36 @@ solo p = lineup (p ∷ []) []
 abbrev byQuality : MatchObjective
 byQuality = record { quality = one; wait = zero; ping = zero; uncertainty = zero }
 
--- no constraint is brought
-abbrev unconstrained : Constraints
-unconstrained =
+-- the party kind is brought or not, and no other constraint
+abbrev constrained : Bool → Constraints
+constrained parties =
     record {
-      brought = record { sizes = false; roles = false; parties = false; latency = false; regions = false };
+      brought = record { sizes = false; roles = false; parties = parties; latency = false; regions = false };
       sizes = record { a = 0; b = 0 };
       roles = record { requirements = []; count = 0 };
       regions = record { pairs = []; count = 0 };
     }
+
+abbrev unconstrained : Constraints
+unconstrained = constrained false
+
+-- guests 1, 2 and 4 are rostered as party 7, and 4 stayed at home; 1, 2 and 3 wait, the first two with this party
+abbrev household : Roster
+household =
+    record {
+      ids = 1 ∷ 2 ∷ 3 ∷ 4 ∷ [];
+      ratings = replicate 4 thousand;
+      deviations = [];
+      parties = 7 ∷ 7 ∷ 0 ∷ 7 ∷ [];
+      roles = replicate 4 0;
+      regions = replicate 4 4;
+    }
+
+abbrev coming : ℕ → ℕ → QueueEntry
+coming party player = record { player = player; joined = 0; rating = thousand; party = party; role = 0 }
+
+abbrev came : ℕ → List QueueEntry
+came party = coming party 1 ∷ coming party 2 ∷ coming 0 3 ∷ []
 
 -- a guest of rating 1000 who waits, and the booking under a key
 abbrev waiter : ℕ → Booking
@@ -134,7 +156,7 @@ abbrev choosing : Call
 choosing =
     Calls.round
     (record {
-      round = Rounds.full (sizes 1 1) (terms (record { ids = 1 ∷ 2 ∷ 3 ∷ []; ratings = replicate 3 thousand; deviations = []; parties = replicate 3 0; roles = replicate 3 0; regions = replicate 3 4 }) unconstrained (Wait one ∷ []) 1);
+      round = Rounds.full (sizes 1 1) (terms (record { ids = 1 ∷ 2 ∷ 3 ∷ []; ratings = replicate 3 thousand; deviations = []; parties = replicate 3 0; roles = replicate 3 0; regions = replicate 3 4 }) unconstrained false (Wait one ∷ []) 1);
       clock = 0;
       sheets = sheets [] [];
     })
@@ -163,6 +185,9 @@ pub data Line : Type 0 where
   exhaustive : TeamComposition → List QueueEntry → List MatchState → Line
   -- a full round's choice of some guests by these sizes, nothing brought but these objectives: the match and the number tried
   full : TeamComposition → List QueueEntry → List SoftObjective → MatchState → ℕ → Line
+  -- a full round's choice 1+1 by the wait objective only of those who came with this party, parties brought or not, waiting friends
+  -- brought or not: the match, if there is one
+  atHome : ℕ → Bool → Bool → Option MatchState → Line
   -- keyed calls from an empty hall: what each answers, and how many wait at the end
   calls : List Call → List (Outcome (Unit {0})) → ℕ → Line
   -- calls from an empty hall: which of them are resends, what each answers, and the hall at the end
@@ -177,7 +202,8 @@ Holds (equalVectors v) = dominatesOf v v ≡ false
 Holds (greedy s ms qs) = (greedyMatches s rostered guests ≡ ms) × (map (λ m. qualityOf rostered (m .a .players) (m .b .players)) ms ≡ qs)
 Holds (beam s width o) = beamMatches (beaming s width byQuality rostered guests 0) guests ≡ o
 Holds (exhaustive s queue ms) = exhaustiveMatches s queue ≡ ms
-Holds (full s queue os m n) = chosen (terms rostered unconstrained os (length os)) s queue ≡ gives (record { best = some m; tried = n })
+Holds (full s queue os m n) = chosen (terms rostered unconstrained false os (length os)) s queue ≡ gives (record { best = some m; tried = n })
+Holds (atHome party parties friends best) = chosen (terms household (constrained parties) friends (Wait one ∷ []) 1) (sizes 1 1) (came party) ≡ gives (record { best = best; tried = 3 })
 Holds (calls cs os n) = (answers empty cs ≡ map answered os) × (length (after empty cs .waiting .bookings) ≡ n)
 Holds (story cs rs os h) = (resends cs ≡ rs) × ((answers empty cs ≡ os) × ((after empty cs ≡ h) × ((answers empty (thin rs cs) ≡ thin rs os) × (after empty (thin rs cs) ≡ h))))
 Holds (pick reference queue e) = nearest reference [] queue ≡ some e
@@ -189,6 +215,7 @@ Holds (pick reference queue e) = nearest reference [] queue ≡ some e
 -- "Booking key 7 guest 1 accepted; again: accepted, one waiting; key 7 guest 2: 7; key 8 guest 1: 9."
 -- "Reference 1000, entries 1010 then 990: 1010."; document 02, 2.2: "the case of 1010 then 990 has equal" joined times. Where the one of
 -- 990 joined earlier it goes first; a nearer one goes first whenever it joined; a rating of NaN or infinity never.
+-- Document 02, 2.3: a friend who never came blocks his party by the party kind, and not by waiting friends, which go by the entries alone.
 -- The beam of width 4 is no line of the paper, but tells wrong turns apart. Nor is
 -- the story: a phone resends two bookings after a withdrawal and a round, among guests who are rated alike. Each gets the answer that
 -- it got, nobody waits for it, and no table is played one short; without the resends all else is the same.
@@ -226,8 +253,13 @@ lines =
     ∷ pick thousand (joining 5 1 r1010 ∷ joining 3 2 r990 ∷ []) (joining 3 2 r990)
     ∷ pick thousand (joining 3 1 r1010 ∷ joining 5 2 thousand ∷ []) (joining 5 2 thousand)
     ∷ pick thousand (joining 0 1 nan ∷ joining 0 2 (inf false) ∷ joining 5 3 r990 ∷ []) (joining 5 3 r990)
+    ∷ atHome 7 false false (some (pair 2 3))
+    ∷ atHome 7 true false none
+    ∷ atHome 7 false true (some (pair 1 2))
+    ∷ atHome 7 true true none
+    ∷ atHome 0 false true (some (pair 2 3))
     ∷ []
 
 pub at-the-table : All Holds lines
-unfolding qualityAt absOf minOf dominatesOf anyBelow seek keep observe observations averageFrom goesBefore closer grown filled anchored insertBy expansions stepped steps beamOf seats secondsOf longer scoreFrom choices ways findings step judge bookingAnswer deal same answerIn markOf removeFirst distinct weighted latencyAt mul add div sub lt le eq ne isNan ofInt ofBits round
-at-the-table = (refl, (refl, (refl, (refl, (refl, (refl, ((refl, refl), ((refl, refl), (refl, (refl, (refl, (refl, (refl, (refl, ((refl, (refl, (refl, (refl, refl)))), ((refl, refl), ((refl, refl), ((refl, refl), ((refl, refl), ((refl, (refl, (refl, (refl, refl)))), (refl, (refl, (refl, (refl, tt))))))))))))))))))))))))
+unfolding qualityAt absOf minOf dominatesOf anyBelow seek keep partySeated observe observations averageFrom goesBefore closer grown filled anchored insertBy expansions stepped steps beamOf seats secondsOf longer scoreFrom choices ways findings step judge bookingAnswer deal same answerIn markOf removeFirst distinct weighted latencyAt mul add div sub lt le eq ne isNan ofInt ofBits round
+at-the-table = (refl, (refl, (refl, (refl, (refl, (refl, ((refl, refl), ((refl, refl), (refl, (refl, (refl, (refl, (refl, (refl, ((refl, (refl, (refl, (refl, refl)))), ((refl, refl), ((refl, refl), ((refl, refl), ((refl, refl), ((refl, (refl, (refl, (refl, refl)))), (refl, (refl, (refl, (refl, (refl, (refl, (refl, (refl, (refl, tt)))))))))))))))))))))))))))))

@@ -1,6 +1,6 @@
 // What the desk keeps in the evening.
 use crate::guests::Roster;
-use capi::rules::Constraints;
+use capi::halls::RoundRules;
 use capi::scores::SoftObjectives;
 use hall::Hall;
 use queue::Queue;
@@ -9,7 +9,7 @@ pub struct Desk {
     pub hall: Hall,
     pub roster: Roster,
     // For the next full rounds.
-    pub rules: Constraints,
+    pub rules: RoundRules,
     pub goals: SoftObjectives,
     // Exported by the old counter. No call of the hall looks at it.
     pub old: Queue,
@@ -45,7 +45,7 @@ impl Desk {
         next
     }
 
-    pub fn with_rules(self, rules: Constraints) -> Desk {
+    pub fn with_rules(self, rules: RoundRules) -> Desk {
         let mut next = self;
         next.rules = rules;
         next

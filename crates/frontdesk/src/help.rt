@@ -40,7 +40,13 @@ fn rounds() {
     print::text(
         b"  rule sizes 2+2    rule role 2 [at-least 1] [at-most 2]    rule regions EU NA\n",
     );
-    print::text(b"  rule parties      rule latency      rules      rules none\n");
+    print::text(
+        b"  rule parties      a table seats all of the roster with the same party, or none of them\n",
+    );
+    print::text(
+        b"  rule friends      a table seats all who wait with the same party, or none of them\n",
+    );
+    print::text(b"  rule latency      rules      rules none\n");
     print::text(
         b"  goal skill 1      goal latency 0.5      goal wait 0.3      goals      goals none\n",
     );

@@ -15,8 +15,8 @@ use crate::words;
 use crate::words::Heard;
 use beam::BeamSearch;
 use capi::halls;
+use capi::halls::RoundRules;
 use capi::halls::Rounded;
-use capi::rules::Constraints;
 use capi::scores::SoftObjectives;
 use hall::Hall;
 use hall::waiting;
@@ -176,7 +176,7 @@ fn full_over(
     roster: Roster,
     hall: Hall,
     sizes: TeamComposition,
-    rules: Constraints,
+    rules: RoundRules,
     goals: SoftObjectives,
     clock: u64,
     players: &mut [u64],

@@ -1,4 +1,4 @@
-// What full rounds must hold to: at most one constraint of each kind.
+// What full rounds must hold to: at most one constraint of each kind, and that friends who wait sit together.
 use crate::commands;
 use crate::complaints;
 use crate::fields;
@@ -9,7 +9,9 @@ use crate::refusals;
 use crate::values;
 use crate::words;
 use crate::words::Heard;
+use crate::words::Word;
 use base::Refusal;
+use capi::halls::RoundRules;
 use capi::rules::Constraints;
 use capi::rules::RoleRequirement;
 use capi::rules::RoleRequirements;
@@ -19,8 +21,15 @@ use constraint::regions::RegionConstraint;
 use constraint::regions::RegionPair;
 use constraint::sizes::TeamSizeConstraint;
 
-// No constraint at all.
-pub fn none() -> Constraints {
+// No rule at all.
+pub fn none() -> RoundRules {
+    RoundRules {
+        constraints: no_constraints(),
+        waiting_friends: false,
+    }
+}
+
+fn no_constraints() -> Constraints {
     let nobody = RoleRequirement {
         role: 0,
         least: 0,
@@ -52,8 +61,20 @@ pub fn none() -> Constraints {
 }
 
 // `rule sizes 2+2` and so on.
-pub fn rule(rules: Constraints, text: &[u8], heard: Heard) -> Constraints {
+pub fn rule(rules: RoundRules, text: &[u8], heard: Heard) -> RoundRules {
     let word = words::next(text, heard.behind());
+    if same(words::bytes_of(text, word), b"friends") {
+        return friends(rules, text, heard, word.to);
+    }
+    let mut next = rules;
+    let constraints = rules.constraints;
+    let more = with_constraint(constraints, text, heard, word);
+    next.constraints = more;
+    next
+}
+
+// The other five kinds, and a word that is none.
+fn with_constraint(rules: Constraints, text: &[u8], heard: Heard, word: Word) -> Constraints {
     let kind = words::bytes_of(text, word);
     if same(kind, b"sizes") {
         return sizes(rules, text, heard, word.to);
@@ -73,7 +94,7 @@ pub fn rule(rules: Constraints, text: &[u8], heard: Heard) -> Constraints {
     complaints::word(
         text,
         heard,
-        b"sizes, role, parties, latency or regions",
+        b"sizes, role, parties, friends, latency or regions",
         word,
     );
     rules
@@ -87,7 +108,7 @@ fn set(rules: Constraints, brought: Brought) -> Constraints {
     next
 }
 
-// ---- the five kinds
+// ---- the six kinds
 
 fn sizes(rules: Constraints, text: &[u8], heard: Heard, at: usize) -> Constraints {
     let word = words::next(text, at);
@@ -118,6 +139,17 @@ fn parties(rules: Constraints, text: &[u8], heard: Heard, at: usize) -> Constrai
     let mut brought = rules.brought;
     brought.parties = true;
     set(rules, brought)
+}
+
+// Stands beside the constraints: it goes by the bookings of those who wait, not by the roster.
+fn friends(rules: RoundRules, text: &[u8], heard: Heard, at: usize) -> RoundRules {
+    if !fields::end(text, heard, at) {
+        return rules;
+    }
+    let mut next = rules;
+    next.waiting_friends = true;
+    print::text(b"rule set\n");
+    next
 }
 
 fn latency(rules: Constraints, text: &[u8], heard: Heard, at: usize) -> Constraints {
@@ -226,7 +258,7 @@ fn with_pair(regions: RegionConstraint, n: usize, pair: RegionPair) -> RegionCon
 // ---- what is set
 
 // `rules` lists them, `rules none` drops them.
-pub fn listed(rules: Constraints, text: &[u8], heard: Heard) -> Constraints {
+pub fn listed(rules: RoundRules, text: &[u8], heard: Heard) -> RoundRules {
     let word = words::next(text, heard.behind());
     if same(words::bytes_of(text, word), b"none") {
         if !fields::end(text, heard, word.to) {
@@ -247,22 +279,26 @@ fn is_any(brought: Brought) -> bool {
     brought.sizes || brought.roles || brought.parties || brought.latency || brought.regions
 }
 
-fn list(rules: Constraints) {
-    let brought = rules.brought;
-    if !is_any(brought) {
+fn list(rules: RoundRules) {
+    let constraints = rules.constraints;
+    let brought = constraints.brought;
+    if !is_any(brought) && !rules.waiting_friends {
         print::text(b"no rules\n");
     }
     if brought.sizes {
-        list_sizes(rules.sizes);
+        list_sizes(constraints.sizes);
     }
-    list_roles(rules.roles);
+    list_roles(constraints.roles);
     if brought.parties {
         print::text(b"rule parties\n");
+    }
+    if rules.waiting_friends {
+        print::text(b"rule friends\n");
     }
     if brought.latency {
         print::text(b"rule latency\n");
     }
-    list_pairs(rules.regions);
+    list_pairs(constraints.regions);
 }
 
 fn list_sizes(sizes: TeamSizeConstraint) {

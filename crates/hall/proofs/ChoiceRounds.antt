@@ -108,10 +108,10 @@ unstopped false (gives u) false false true wide v e p = refl
 unstopped false (gives u) false false false true v e p = refl
 unstopped false (gives u) false false false false v e p = refl
 
-module _ (s : TeamComposition) (c : Constraints) (objectives : List SoftObjective) (count : ℕ) (r : Roster) (clock : ℕ) (sheets : Sheets) (ws : List Booking) (few : length ws ≤ 64) where
+module _ (s : TeamComposition) (c : Constraints) (friends : Bool) (objectives : List SoftObjective) (count : ℕ) (r : Roster) (clock : ℕ) (sheets : Sheets) (ws : List Booking) (few : length ws ≤ 64) where
   -- the terms and the call
   abbrev given : Terms
-  given = terms r c objectives count
+  given = terms r c friends objectives count
 
   abbrev call : RoundCall
   call = calling (full s given) clock (sheets .players) (sheets .qualities)

@@ -4,3 +4,4 @@ pub mod Turns
 pub mod RoundLaws
 pub mod ChoiceRounds
 pub mod Found
+pub mod Friends

@@ -206,12 +206,13 @@ fn choice_handed(choice: Choice, players: &mut [u64], qualities: &mut [f64]) -> 
     }
 }
 
-// The best choice of the first n bookings.
+// The best choice of the first n bookings, which are those who wait.
 pub fn full_handed(
     bookings: [Booking; 64],
     n: usize,
     sizes: TeamComposition,
     constraints: Constraints,
+    friends: bool,
     objectives: [SoftObjective; 8],
     count: usize,
     clock: u64,
@@ -223,7 +224,7 @@ pub fn full_handed(
     players: &mut [u64],
     qualities: &mut [f64],
 ) -> Handed
-    ensures { λ r. ⌜ FoundNumbers (calling (full sizes (terms (ofRules (now (ids .entry)) (now (ratings .entry)) (now (parties .entry)) (now (roles .entry)) (now (regions .entry))) constraints objectives count)) clock (now (players .entry)) (now (qualities .entry))) (take n bookings) r (now (players .exit)) (now (qualities .exit)) ⌝ }
+    ensures { λ r. ⌜ FoundNumbers (calling (full sizes (terms (ofRules (now (ids .entry)) (now (ratings .entry)) (now (parties .entry)) (now (roles .entry)) (now (regions .entry))) constraints friends objectives count)) clock (now (players .entry)) (now (qualities .entry))) (take n bookings) r (now (players .exit)) (now (qualities .exit)) ⌝ }
 {
     // The choice has refusals 1 and 2 by itself. Only a round that is refused anyway looks for them before.
     let checked = check_sheets_and_clock(clock, players.len(), qualities.len());
@@ -244,6 +245,7 @@ pub fn full_handed(
         waiting::eligible(bookings, n),
         sizes,
         constraints,
+        friends,
         objectives,
         count,
         ids,

@@ -37,6 +37,7 @@ pub struct Call {
     pub key: u64,
     pub player: u64,
     pub rating: f64,
+    pub party: u64,
     pub time: u64,
     pub a: usize,
     pub b: usize,
@@ -64,6 +65,7 @@ pub fn booking(key: u64, player: u64, rating: f64, joined: u64) -> Call {
         key: key,
         player: player,
         rating: rating,
+        party: 0,
         time: joined,
         a: 0,
         b: 0,
@@ -78,6 +80,7 @@ pub fn withdrawal(key: u64, player: u64) -> Call {
         key: key,
         player: player,
         rating: 0.0,
+        party: 0,
         time: 0,
         a: 0,
         b: 0,
@@ -92,6 +95,7 @@ pub fn round(kind: u8, a: usize, b: usize, width: usize, clock: u64, fault: u8) 
         key: 0,
         player: 0,
         rating: 0.0,
+        party: 0,
         time: clock,
         a: a,
         b: b,
@@ -158,7 +162,7 @@ fn book(hall: Hall, call: Call) -> Made {
         player: call.player,
         joined: call.time,
         rating: call.rating,
-        party: 0,
+        party: call.party,
         role: 0,
     };
     keyed(halls::yilgashe_hall_book(hall, call.key, booking))
@@ -237,7 +241,7 @@ fn wait_and_skill(weight: f64) -> SoftObjectives {
     }
 }
 
-// By wait and skill. Where the width is odd, parties sit together.
+// By wait and skill. Where the width is odd, parties sit together; where four leaves 2 or 3 of it, friends who wait do.
 fn full(
     hall: Hall,
     call: Call,
@@ -253,11 +257,12 @@ fn full(
         a: call.a,
         b: call.b,
     };
-    let together = call.width % 2 == 1;
+    let parties_sit = call.width % 2 == 1;
+    let friends_sit = 1 < call.width % 4;
     rounded(halls::yilgashe_hall_full_round(
         hall,
         sizes,
-        rosters::constraints(together),
+        rosters::rules(parties_sit, friends_sit),
         wait_and_skill(weight(call)),
         call.time,
         ids,

@@ -114,6 +114,16 @@ fn round(word: u64) -> Call {
     )
 }
 
+// Half of them book alone, the others with one of three parties, whatever the roster says.
+fn party(word: u64) -> u64 {
+    match word % 8 {
+        0 | 1 => 1,
+        2 => 2,
+        3 => 3,
+        _ => 0,
+    }
+}
+
 // A booking, or one time in five a withdrawal.
 fn keyed(plan: Plan, word: u64) -> Call {
     let second = next(word);
@@ -122,12 +132,14 @@ fn keyed(plan: Plan, word: u64) -> Call {
     if second % 5 == 0 {
         return calls::withdrawal(key, player);
     }
-    calls::booking(
+    let mut booking = calls::booking(
         key,
         player,
         rosters::rating(second / 1024),
         time(second / 8192),
-    )
+    );
+    booking.party = party(next(second));
+    booking
 }
 
 fn fresh(list: u64, place: usize) -> Call {

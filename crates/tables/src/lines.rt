@@ -1,4 +1,4 @@
-// The lines of document 01's "At the table".
+// The lines of document 01's "At the table", and those of document 02's friends who stayed at home (2.3).
 use crate::calls;
 use crate::rosters;
 use crate::story;
@@ -7,6 +7,7 @@ use beam::BeamSearch;
 use calls::Call;
 use candidate::exhaustive::ExhaustiveGenerator;
 use capi::halls;
+use capi::halls::RoundRules;
 use capi::scores::SoftObjectives;
 use greedy::GreedySearch;
 use hall::Booking;
@@ -37,6 +38,7 @@ pub fn all() {
     clock(9007199254740992);
     clock(9007199254740993);
     vectors();
+    friends();
 }
 
 // ---- the table's guests
@@ -240,22 +242,22 @@ fn bookings() {
     told(hall, calls::booking(8, 1, 1000.0, 0));
 }
 
-fn booked(player: u64, rating: f64) -> Booking {
+fn booked(player: u64, rating: f64, party: u64) -> Booking {
     Booking {
         player: player,
         joined: 0,
         rating: rating,
-        party: 0,
+        party: party,
         role: 0,
     }
 }
 
-// A hall where guests 1, 2 and 3 wait.
-fn three_waiting() -> Hall {
+// A hall where guests 1, 2 and 3 wait, the first two of them with this party.
+fn three_waiting(party: u64) -> Hall {
     let mut hall = halls::yilgashe_hall_empty();
-    hall.bookings[0] = booked(1, 1000.0);
-    hall.bookings[1] = booked(2, 1280.0);
-    hall.bookings[2] = booked(3, 1010.0);
+    hall.bookings[0] = booked(1, 1000.0, party);
+    hall.bookings[1] = booked(2, 1280.0, party);
+    hall.bookings[2] = booked(3, 1010.0, 0);
     hall.waiting = 3;
     hall
 }
@@ -269,35 +271,60 @@ fn by_wait() -> SoftObjectives {
     }
 }
 
-// The full round of guests 1, 2 and 3 by the wait objective only.
-fn full_round() {
+// The full round 1+1 by the wait objective only. The roster has guests 1 to 4, with these parties.
+fn full_over(hall: Hall, rules: RoundRules, parties: &[u64; 4]) {
     let ids = [1u64, 2, 3, 4];
     let ratings = [1000.0f64, 1280.0, 1010.0, 1090.0];
-    let parties = [0u64; 4];
     let roles = [0u32; 4];
     let regions = [4u8; 4];
     let mut players = [0u64; 64];
     let mut qualities = [0.0f64; 64];
     let sizes = TeamComposition { a: 1, b: 1 };
     let rounded = halls::yilgashe_hall_full_round(
-        three_waiting(),
+        hall,
         sizes,
-        rosters::constraints(false),
+        rules,
         by_wait(),
         0,
         &ids,
         &ratings,
-        &parties,
+        parties,
         &roles,
         &regions,
         &mut players,
         &mut qualities,
     );
-    text::say(b"full round of 3, 1+1: ");
     text::handed(calls::handed(rounded), &players, 1, 1);
     text::say(b", tried ");
     text::number(rounded.tried);
     text::say(b"\n");
+}
+
+fn full_round() {
+    let parties = [0u64; 4];
+    text::say(b"full round of 3, 1+1: ");
+    full_over(three_waiting(0), rosters::rules(false, false), &parties);
+}
+
+// Guests 1, 2 and 4 are party 5 of the roster, and guest 4 stayed at home. The others of it wait with this party.
+fn friends_by(words: &[u8], party: u64, rules: RoundRules) {
+    let parties = [5u64, 5, 0, 5];
+    text::say(b"full round of 3, 1+1, friend 4 of 1 and 2 at home, ");
+    text::say(words);
+    text::say(b": ");
+    full_over(three_waiting(party), rules, &parties);
+}
+
+fn friends() {
+    friends_by(b"no rule", 5, rosters::rules(false, false));
+    friends_by(b"parties", 5, rosters::rules(true, false));
+    friends_by(b"waiting friends", 5, rosters::rules(false, true));
+    friends_by(b"both", 5, rosters::rules(true, true));
+    friends_by(
+        b"booked without a party, waiting friends",
+        0,
+        rosters::rules(false, true),
+    );
 }
 
 // ---- limits
@@ -346,7 +373,7 @@ fn clock(nanos: u64) {
     text::say(b", beam width 1, 1+1: ");
     beam_at(nanos, 1, 1, 1);
     told(
-        three_waiting(),
+        three_waiting(0),
         calls::round(calls::GREEDY, 1, 1, 0, nanos, calls::SOUND),
     );
     told(

@@ -1,5 +1,5 @@
-// The lines of document 01's table, a list of calls that is told call by call, and drawn lists of calls: the program says what the
-// proved functions answer to them, and how many checks of the answers fail.
+// The lines of document 01's table and of 2.3, a list of calls that is told call by call, and drawn lists of calls: the program says what
+// the proved functions answer to them, and how many checks of the answers fail.
 
 // What is written.
 mod text;

@@ -1,4 +1,5 @@
 // Rosters by value, and what a full round brings.
+use capi::halls::RoundRules;
 use capi::rules::Constraints;
 use capi::rules::RoleRequirement;
 use capi::rules::RoleRequirements;
@@ -67,8 +68,16 @@ pub fn guests() -> Roster {
     }
 }
 
+// That parties of the roster sit together, that friends who wait do, both or neither.
+pub fn rules(parties: bool, friends: bool) -> RoundRules {
+    RoundRules {
+        constraints: constraints(parties),
+        waiting_friends: friends,
+    }
+}
+
 // No constraint, or that parties sit together.
-pub fn constraints(together: bool) -> Constraints {
+fn constraints(together: bool) -> Constraints {
     let requirement = RoleRequirement {
         role: 0,
         least: 0,

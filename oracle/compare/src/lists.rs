@@ -5,9 +5,10 @@ mod beside;
 mod counter;
 mod counts;
 mod demand;
+mod friends;
 
 pub use counter::{Counter, Library, Modelled};
-pub use counts::{Counts, Held};
+pub use counts::{Befriended, Counts, Held};
 
 use crate::data::{Answer, Call};
 use crate::draw;
@@ -15,6 +16,7 @@ use crate::rng::Rng;
 use crate::same::Same;
 use beside::beside_rust;
 use demand::{Ledger, Mark};
+use friends::friends;
 use std::fmt::Debug;
 use yilgashe_sys::{Hall, Note};
 
@@ -58,6 +60,7 @@ pub fn judge<L: Counter, M: Counter>(calls: &[Call], counts: &mut Counts) -> Res
         let marked = agreed.and_then(|()| {
             let mark = ledger.enter(call, &answer, &before, &after)?;
             counts.held.count(beside_rust(call, &answer, &before)?);
+            counts.befriended.count(friends(call, &answer, &before));
             Ok(mark)
         });
         match marked.map_err(|difference| format!("call {place}: {difference}"))? {
@@ -97,6 +100,7 @@ pub fn judge_single<L: Counter, M: Counter>(
     let agreed = agree(call, (&answer, &library.hall()), (&expected, &model.hall()));
     agreed.map_err(|difference| format!("{difference}\n  before: {:?}", hall.queue()))?;
     counts.held_single.count(beside_rust(call, &answer, hall)?);
+    counts.befriended_single.count(friends(call, &answer, hall));
     Ok(())
 }
 

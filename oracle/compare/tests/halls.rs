@@ -1,10 +1,10 @@
 //! The hall's lists: what they reach, and that halls which keep other rules are found out.
 
-use compare::data::{Answer, Call, Search};
+use compare::data::{Answer, Call, Round, Search};
 use compare::lists::{self, Counter, Counts, Library, Modelled};
 use compare::model::hall::{Hall as Model, Kind, Note};
-use compare::model::{Choice, Greedy, Rule, earlier_place, longer_wait};
-use yilgashe_sys::{Hall, Queue};
+use compare::model::{Choice, Greedy, Rule, earlier_place, friends_seated, longer_wait};
+use yilgashe_sys::{Hall, ProposedMatch, Queue, QueueEntry};
 
 /// On the default seed.
 fn run<L: Counter, M: Counter>(calls: u64) -> (Counts, Vec<String>) {
@@ -14,7 +14,7 @@ fn run<L: Counter, M: Counter>(calls: u64) -> (Counts, Vec<String>) {
 }
 
 #[test]
-fn every_refusal_and_every_sort_of_greedy_round_is_reached() {
+fn every_refusal_and_every_sort_of_round_is_reached() {
     let (counts, differences) = run::<Library, Modelled>(20_000);
     assert_eq!(differences, [""; 0]);
     for number in 1..=11 {
@@ -26,6 +26,15 @@ fn every_refusal_and_every_sort_of_greedy_round_is_reached() {
         assert!(held.rust > 100 && held.model > 100, "{held:?}");
         assert!(held.parted > 40 && held.parted < held.model, "{held:?}");
     }
+    for friends in [counts.befriended, counts.befriended_single] {
+        assert!(friends.brought > 200 && friends.both > 30, "{friends:?}");
+        assert!(
+            friends.parted > 40 && friends.parted < friends.brought,
+            "{friends:?}"
+        );
+    }
+    assert_eq!(counts.befriended.twofold, 0);
+    assert!(counts.befriended_single.twofold > 40);
 }
 
 /// A model that breaks one rule.
@@ -130,29 +139,12 @@ wrong!(
 
 /// Where a full round hands out a match: the passing choice that no later one `beats`.
 fn hands_out(hall: &mut Model, call: &Call, beats: fn(f64, f64) -> bool) -> Answer {
-    let mut waiting = hall.waiting.clone();
-    let mut answer = hall.answer(call);
-    let Call::Round(round) = call else {
+    let waiting = hall.waiting.clone();
+    let answer = hall.answer(call);
+    let (Some((round, full)), 1..) = (call.full_round(), answer.count) else {
         return answer;
     };
-    let Search::Full {
-        constraints,
-        objectives,
-        rows,
-    } = &round.search
-    else {
-        return answer;
-    };
-    if answer.count == 0 {
-        return answer;
-    }
-    let choice = Choice {
-        queue: Queue::of(&waiting),
-        sizes: round.sizes,
-        constraints: *constraints,
-        objectives: *objectives,
-        rows: rows.clone(),
-    };
+    let choice = Choice::of(Queue::of(&waiting), round.sizes, full);
     let weighed = choice.listed().into_iter().zip(choice.weighed());
     let passing = weighed.filter(|(_, (passes, _))| *passes);
     let kept = passing.reduce(|kept, next| {
@@ -162,12 +154,180 @@ fn hands_out(hall: &mut Model, call: &Call, beats: fn(f64, f64) -> bool) -> Answ
             kept
         }
     });
-    let (teams, _) = kept.expect("one passes");
-    let seated = [teams.a.seated(), teams.b.seated()].concat();
-    answer.sheets.players[..seated.len()].copy_from_slice(&seated);
-    waiting.retain(|entry| !seated.contains(&entry.player));
+    let teams = kept.map(|(teams, _)| teams);
+    seats(hall, waiting, round, answer, teams)
+}
+
+/// The answer of a full round, and the hall, with these teams seated in place of its own.
+fn seats(
+    hall: &mut Model,
+    mut waiting: Vec<QueueEntry>,
+    round: &Round,
+    answer: Answer,
+    teams: Option<ProposedMatch>,
+) -> Answer {
+    let mut sheets = round.sheets.clone();
+    if let Some(teams) = teams {
+        let seated = players(&teams);
+        sheets.players[..seated.len()].copy_from_slice(&seated);
+        sheets.qualities[0] = 0.0;
+        waiting.retain(|entry| !seated.contains(&entry.player));
+    }
     hall.waiting = waiting;
-    answer
+    Answer {
+        count: usize::from(teams.is_some()),
+        sheets,
+        ..answer
+    }
+}
+
+fn players(teams: &ProposedMatch) -> Vec<u64> {
+    [teams.a.seated(), teams.b.seated()].concat()
+}
+
+wrong!(
+    PartsFriends,
+    hall,
+    call,
+    chooses(hall, call, |choice| choice.waiting_friends = false)
+);
+
+wrong!(
+    FriendsByTheRoster,
+    hall,
+    call,
+    chooses(hall, call, |choice| {
+        let rows = &choice.rows;
+        for entry in &mut choice.queue.entries {
+            let row = rows.ids.iter().position(|id| *id == entry.player);
+            entry.party = row.map_or(0, |row| rows.parties()[row]);
+        }
+    })
+);
+
+wrong!(
+    PartyZeroMakesFriends,
+    hall,
+    call,
+    chooses(hall, call, |choice| {
+        let alone = choice.queue.entries.iter_mut().filter(|e| e.party == 0);
+        alone.for_each(|entry| entry.party = u64::MAX - 1);
+    })
+);
+
+wrong!(
+    FirstEntriesMakeFriends,
+    hall,
+    call,
+    chooses(hall, call, |choice| {
+        let mut known = Vec::new();
+        for entry in &mut choice.queue.entries {
+            if known.contains(&entry.player) {
+                entry.party = 0;
+            }
+            known.push(entry.player);
+        }
+    })
+);
+
+wrong!(
+    FriendsInPlaceOfParties,
+    hall,
+    call,
+    chooses(hall, call, |choice| {
+        choice.constraints.brought.parties = false;
+    })
+);
+
+wrong!(
+    PartiesInPlaceOfFriends,
+    hall,
+    call,
+    chooses(hall, call, |choice| {
+        choice.waiting_friends = !choice.constraints.brought.parties;
+    })
+);
+
+/// A full round that brings waiting friends, and chooses with one thing changed.
+fn chooses(hall: &mut Model, call: &Call, change: fn(&mut Choice)) -> Answer {
+    befriended(hall, call, |mut choice| {
+        change(&mut choice);
+        choice.best().flatten()
+    })
+}
+
+wrong!(
+    FriendsOfTeamA,
+    hall,
+    call,
+    keeps(hall, call, |waiting, teams| {
+        let seated = players(teams);
+        let calls = |entry: &&QueueEntry| {
+            teams.a.seated().contains(&entry.player) || !seated.contains(&entry.player)
+        };
+        let heard: Vec<QueueEntry> = waiting.iter().filter(calls).copied().collect();
+        friends_seated(&heard, &seated)
+    })
+);
+
+wrong!(
+    FriendsInOneTeam,
+    hall,
+    call,
+    keeps(hall, call, |waiting, teams| {
+        [teams.a, teams.b]
+            .iter()
+            .all(|team| friends_seated(waiting, team.seated()))
+    })
+);
+
+wrong!(
+    OneFriendIsEnough,
+    hall,
+    call,
+    keeps(hall, call, |waiting, teams| {
+        let seated = players(teams);
+        let friends = |one: &QueueEntry| -> Vec<u64> {
+            let others = waiting
+                .iter()
+                .filter(|e| e.party == one.party && one.party != 0);
+            let others = others.map(|entry| entry.player);
+            others.filter(|player| *player != one.player).collect()
+        };
+        let sits = |entry: &&QueueEntry| seated.contains(&entry.player);
+        waiting.iter().filter(sits).all(|entry| {
+            let friends = friends(entry);
+            friends.is_empty() || friends.iter().any(|friend| seated.contains(friend))
+        })
+    })
+);
+
+/// A full round that brings waiting friends, and keeps them together by another rule.
+fn keeps(hall: &mut Model, call: &Call, rule: fn(&[QueueEntry], &ProposedMatch) -> bool) -> Answer {
+    befriended(hall, call, |mut choice| {
+        choice.waiting_friends = false;
+        let weighed = choice.listed().into_iter().zip(choice.weighed());
+        let kept = weighed.filter(|(m, (passes, _))| *passes && rule(choice.queue.waiting(), m));
+        let best = kept.reduce(|best, next| if next.1.1 < best.1.1 { best } else { next });
+        best.map(|(teams, _)| teams)
+    })
+}
+
+/// Where a full round that brings waiting friends is not refused: with what `best` makes of its choice.
+fn befriended(
+    hall: &mut Model,
+    call: &Call,
+    best: impl FnOnce(Choice) -> Option<ProposedMatch>,
+) -> Answer {
+    let waiting = hall.waiting.clone();
+    let answer = hall.answer(call);
+    match (call.full_round(), answer.refusal) {
+        (Some((round, full)), 0) if full.rules.waiting_friends => {
+            let choice = Choice::of(Queue::of(&waiting), round.sizes, full);
+            seats(hall, waiting, round, answer, best(choice))
+        }
+        _ => answer,
+    }
 }
 
 wrong!(
@@ -268,6 +428,39 @@ fn found<L: Counter>() -> usize {
     run::<L, Modelled>(4000).0.differences
 }
 
+/// Full rounds are few among the calls.
+fn found_in_full_rounds<L: Counter>() -> usize {
+    run::<L, Modelled>(16_000).0.differences
+}
+
+#[test]
+fn other_rules_for_friends_are_found_out() {
+    let others = [
+        ("parts friends", found_in_full_rounds::<PartsFriends>()),
+        (
+            "by the roster",
+            found_in_full_rounds::<FriendsByTheRoster>(),
+        ),
+        ("party 0", found_in_full_rounds::<PartyZeroMakesFriends>()),
+        (
+            "first entries",
+            found_in_full_rounds::<FirstEntriesMakeFriends>(),
+        ),
+        (
+            "in place of parties",
+            found_in_full_rounds::<FriendsInPlaceOfParties>(),
+        ),
+        (
+            "parties in place",
+            found_in_full_rounds::<PartiesInPlaceOfFriends>(),
+        ),
+        ("of team A", found_in_full_rounds::<FriendsOfTeamA>()),
+        ("in one team", found_in_full_rounds::<FriendsInOneTeam>()),
+        ("one friend", found_in_full_rounds::<OneFriendIsEnough>()),
+    ];
+    assert!(others.iter().all(|(_, count)| *count > 3), "{others:?}");
+}
+
 #[test]
 fn other_rules_are_found_out() {
     assert_eq!(found::<Modelled>(), 0);
@@ -326,6 +519,7 @@ fn demand_3_finds_what_breaks_it() {
         ("notes clashes", broken::<NotesClashes>()),
         ("stores nothing", broken::<StoresNothing>()),
         ("worst choice", broken::<TakesTheWorst>()),
+        ("parts friends", broken::<PartsFriends>()),
         ("hands out nothing later", broken::<HandsOutNothingLater>()),
     ];
     assert!(others.iter().all(|(_, count)| *count > 3), "{others:?}");

@@ -52,6 +52,15 @@ pub struct Keyed {
     pub refusal: u8,
 }
 
+/// What the match of a full round must meet: the constraints that are brought and, where waiting friends are, that everyone is seated
+/// who waits with the party, other than 0, of an entry of a seated guest.
+#[repr(C)]
+#[derive(Clone, Copy, Debug)]
+pub struct RoundRules {
+    pub constraints: Constraints,
+    pub waiting_friends: bool,
+}
+
 /// `count` and `tried` are 0 where refused; `tried` is a full round's.
 #[repr(C)]
 #[derive(Clone, Copy)]
@@ -160,7 +169,7 @@ unsafe extern "C" {
     fn yilgashe_hall_full_round(
         hall: Hall,
         sizes: TeamComposition,
-        constraints: Constraints,
+        rules: RoundRules,
         objectives: SoftObjectives,
         clock: u64,
         ids: *const u64,
@@ -266,7 +275,7 @@ pub fn hall_beam_round(
 pub fn hall_full_round(
     hall: Hall,
     sizes: TeamComposition,
-    constraints: Constraints,
+    rules: RoundRules,
     objectives: SoftObjectives,
     clock: u64,
     ids: &[u64],
@@ -282,7 +291,7 @@ pub fn hall_full_round(
         yilgashe_hall_full_round(
             hall,
             sizes,
-            constraints,
+            rules,
             objectives,
             clock,
             ids.as_ptr(),

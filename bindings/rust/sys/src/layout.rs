@@ -50,5 +50,6 @@ layout! {
     Note, 16, player at 0, kind at 8, answer at 9;
     Hall, 27152, bookings at 0, waiting at 2560, keys at 2568, notes at 10760, noted at 27144;
     Keyed, 27160, hall at 0, refusal at 27152;
+    RoundRules, 336, constraints at 0, waiting_friends at 328;
     Rounded, 27176, hall at 0, count at 27152, tried at 27160, refusal at 27168;
 }

@@ -720,14 +720,22 @@ fn answer_of_a_beam_round() {
     );
 }
 
+/// The constraints alone, without waiting friends.
+fn ruled(constraints: Constraints) -> RoundRules {
+    RoundRules {
+        constraints,
+        waiting_friends: false,
+    }
+}
+
 #[test]
 fn answer_of_a_full_round() {
     let (mut players, mut qualities) = sheets();
-    let mut round = |rules, clock| {
+    let mut round = |constraints, clock| {
         hall_full_round(
             hall_of_four(),
             TWO_ONE,
-            rules,
+            ruled(constraints),
             wishes(0, 1.0),
             clock,
             &IDS,
@@ -753,4 +761,37 @@ fn answer_of_a_full_round() {
         (&[1, 2, 4, u64::MAX][..], vec![3])
     );
     assert_eq!((qualities[0], qualities[1]), (0.0, -1.0));
+}
+
+/// Guests 1 and 3 come as friends, and on the roster 1 and 2 are: neither kind looks at the other's parties.
+#[test]
+fn either_kind_of_party_in_a_full_round() {
+    let mut hall = hall_of_four();
+    (hall.bookings[0].party, hall.bookings[2].party) = (wide(9), wide(9));
+    let seated = |parties, waiting_friends| {
+        let (mut players, mut qualities) = sheets();
+        let mut rules = ruled(no_rules());
+        rules.constraints.brought.parties = parties;
+        rules.waiting_friends = waiting_friends;
+        let told = hall_full_round(
+            hall,
+            TWO_ONE,
+            rules,
+            wishes(2, 1.0),
+            0,
+            &IDS,
+            &RATINGS,
+            &[5, 5, 0, 0],
+            &[0; 4],
+            &[0; 4],
+            &mut players,
+            &mut qualities,
+        );
+        assert_eq!((told.refusal, told.count, told.tried), (0, 1, 4));
+        [players[0], players[1], players[2]]
+    };
+    assert_eq!(seated(false, false), [2, 3, 4]);
+    assert_eq!(seated(false, true), [1, 3, 4]);
+    assert_eq!(seated(true, false), [1, 2, 4]);
+    assert_eq!(seated(true, true), [1, 2, 3]);
 }

@@ -66,7 +66,7 @@ walk-returns : (t : ℕ) → walk-lts.Need-returns (calls t) (walk-at t) walk.Po
 walk-returns t c =
     let s = c .before in
     let few = c .if1 .taken in
-    (omega (arith, ways-short (s .args .rest) (s .args .left) few), λ r k n h stands fills counts. through-short (s .args .sizes) (weighed (terms r k (s .args .objectives) (s .args .count))) (matchOf (s .args .teams)) (s .args .left) (take (s .args .rest) (drop (s .args .from) (s .args .queued .now))) (soFarOf (s .args .best)) (omega (arith, length-take (s .args .rest) (drop (s .args .from) (s .args .queued .now)), few)))
+    (omega (arith, ways-short (s .args .rest) (s .args .left) few), λ r k on es h stands fills counts. through-short (s .args .sizes) (weighed (terms r k on (s .args .objectives) (s .args .count)) es) (matchOf (s .args .teams)) (s .args .left) (take (s .args .rest) (drop (s .args .from) (s .args .queued .now))) (soFarOf (s .args .best)) (omega (arith, length-take (s .args .rest) (drop (s .args .from) (s .args .queued .now)), few)))
 
 walk-score-of-requires : (t : ℕ) → walk-lts.Need-score-of-requires (calls t) (walk-at t) walk.Post
 walk-score-of-requires t c κs = (c .before .before .pre .1 .0 .0, c .before .before .pre .1 .0 .1 .0)
@@ -83,16 +83,16 @@ walk-weigh-requires t c κs =
 walk-returns-2 : (t : ℕ) → walk-lts.Need-returns-2 (calls t) (walk-at t) walk.Post
 walk-returns-2 t c =
     let s = c .before .before .before .before .before in
-    let x : Columns = (columns (s .args .queued .now) (s .args .rows .now) (s .args .rated .now) (s .args .admits .now) (s .args .counts .now) (s .args .same .now) (s .args .friends .now) (s .args .foes .now)) in
+    let x : Columns = (columns (s .args .queued .now) (s .args .rows .now) (s .args .rated .now) (s .args .admits .now) (s .args .counts .now) (s .args .same .now) (s .args .expected .now) (s .args .foes .now)) in
     let m = matchOf (s .args .teams) in
     let e = c .before .before .before .if2 .taken in
     let d = ap (λ (b : SoFar). b .tried) (c .weigh .ensures) ∙ tried-either (c .before .passes .result) (soFarOf (s .args .best)) m (c .before .before .score-of .result) in
     rw e (
       rw ways-none d,
-      λ r k n h stands fills counts.
+      λ r k on es h stands fills counts.
           c .weigh .ensures
-          ∙ whole-weighed r k n x (s .args .bounds) stands (s .args .sizes) (s .pre .1 .0 .0) (s .pre .1 .0 .1 .0) (s .args .objectives) (s .args .count) (soFarOf (s .args .best)) m (s .args .sums) (s .args .tally) fills counts (omega (arith, s .pre .1 .0, e)) (c .before .passes .ensures) (c .before .before .score-of .ensures)
-          ∙ sym (through-none (s .args .sizes) (weighed (terms r k (s .args .objectives) (s .args .count))) m (take (s .args .rest) (drop (s .args .from) (s .args .queued .now))) (soFarOf (s .args .best))),
+          ∙ whole-weighed r k on es x (s .args .bounds) stands (s .args .sizes) (s .pre .1 .0 .0) (s .pre .1 .0 .1 .0) (s .args .objectives) (s .args .count) (soFarOf (s .args .best)) m (s .args .sums) (s .args .tally) fills counts (omega (arith, s .pre .1 .0, e)) (c .before .passes .ensures) (c .before .before .score-of .ensures)
+          ∙ sym (through-none (s .args .sizes) (weighed (terms r k on (s .args .objectives) (s .args .count)) es) m (take (s .args .rest) (drop (s .args .from) (s .args .queued .now))) (soFarOf (s .args .best))),
     )
 
 walk-seat-two-requires : (t : ℕ) → walk-lts.Need-seat-two-requires (calls t) (walk-at t) walk.Post
@@ -152,13 +152,13 @@ walk-walk-requires t c κs =
     let room : length (seated m) < seatsOf (s .args .sizes) = omega (arith, z, s .pre .1 .0) in
     let e = ap (λ (y : MatchState). length (seated y)) (c .before .before .before .before .seat .ensures) ∙ seat-more (s .args .sizes) m (getD (s .args .queued .now) (s .args .from) 0) (s .pre .1 .0 .0) (s .pre .1 .0 .1 .0) room in
     let g = ways-step (s .args .rest) (s .args .left) z k in
-    let f = counts-with (s .args .tally) (c .before .before .before .before .before .before .is-a-short .result) (getD (s .args .admits .now) (s .args .from) false) (getD (s .args .counts .now) (s .args .from) 0) (getD (s .args .same .now) (s .args .from) 0) (getD (s .args .friends .now) (s .args .from) 0) (getD (s .args .foes .now) (s .args .from) 0) (c .tally-with .ensures) in
+    let f = counts-with (s .args .tally) (c .before .before .before .before .before .before .is-a-short .result) (getD (s .args .admits .now) (s .args .from) false) (getD (s .args .counts .now) (s .args .from) 0) (getD (s .args .same .now) (s .args .from) 0) (getD (s .args .expected .now) (s .args .from) 0) (getD (s .args .foes .now) (s .args .from) 0) (c .tally-with .ensures) in
     (omega (arith, s .pre .0, k, z), ((s .pre .1 .0 .0, (s .pre .1 .0 .1 .0, (omega (arith, s .pre .1 .0, k, z), omega (arith, e, s .pre .1 .0, z)))), (s .pre .1 .1 .0, (omega (arith, g, s .pre .1 .1 .1 .0), (omega (arith, f, z, s .pre .1 .1 .1 .1 .0, s .pre .1 .1 .1 .1 .1 (s .args .from)), s .pre .1 .1 .1 .1 .1)))))
 
 walk-returns-4 : (t : ℕ) → walk-lts.Need-returns-4 (calls t) (walk-at t) walk.Post
 walk-returns-4 t c =
     let s = c .before .before .before .before .before .before .before .before .before .before .before .before in
-    let x : Columns = (columns (s .args .queued .now) (s .args .rows .now) (s .args .rated .now) (s .args .admits .now) (s .args .counts .now) (s .args .same .now) (s .args .friends .now) (s .args .foes .now)) in
+    let x : Columns = (columns (s .args .queued .now) (s .args .rows .now) (s .args .rated .now) (s .args .admits .now) (s .args .counts .now) (s .args .same .now) (s .args .expected .now) (s .args .foes .now)) in
     let m = matchOf (s .args .teams) in
     let z = c .before .before .before .before .before .before .before .before .before .before .if2 .left in
     let l : s .args .left ≤ s .args .rest = omega (arith, c .before .before .before .before .before .before .before .before .before .before .before .if1 .left) in
@@ -168,11 +168,11 @@ walk-returns-4 t c =
     let e = c .if4 .taken in
     let short : length (take (s .args .rest - 1) (drop (s .args .from + 1) (x .queued))) < s .args .left = omega (arith, e, z, length-take (s .args .rest - 1) (drop (s .args .from + 1) (x .queued))) in (
       omega (arith, g, ways-short (s .args .rest - 1) (s .args .left) (omega (arith, e, z)), c .before .walk .ensures .0),
-      λ r k n h stands fills counts.
-          let o : s .args .from < n = omega (arith, l, z, h) in
-          let a = next-sums r k n x (s .args .bounds) stands (s .args .sizes) (s .pre .1 .0 .0) (s .pre .1 .0 .1 .0) m (s .args .sums) (s .args .tally) (s .args .from) fills counts room o there (c .before .before .before .before .before .before .before .before .is-a-short .ensures) (c .before .before .before .before .before .before .seat .ensures) (c .before .before .before .sums-with .ensures) in
-          let b = next-tally r k n x (s .args .bounds) stands (s .args .sizes) (s .pre .1 .0 .0) (s .pre .1 .0 .1 .0) m (s .args .sums) (s .args .tally) (s .args .from) fills counts room o there (c .before .before .before .before .before .before .before .before .is-a-short .ensures) (c .before .before .before .before .before .before .seat .ensures) (c .before .before .tally-with .ensures) in
-          two-calls (s .args .sizes) (weighed (terms r k (s .args .objectives) (s .args .count))) (x .queued) (s .args .from) (s .args .rest) (s .args .left) m (soFarOf (s .args .best)) z l (omega (arith, s .pre .1 .0, s .pre .1 .1 .0)) (c .before .before .before .before .before .before .seat .ensures) (c .before .walk .ensures .1 r k n (omega (arith, l, z, h)) stands a b) (through-short (s .args .sizes) (weighed (terms r k (s .args .objectives) (s .args .count))) m (s .args .left) _ _ short),
+      λ r k on es h stands fills counts.
+          let o : s .args .from < length es = omega (arith, l, z, h) in
+          let a = next-sums r k on es x (s .args .bounds) stands (s .args .sizes) (s .pre .1 .0 .0) (s .pre .1 .0 .1 .0) m (s .args .sums) (s .args .tally) (s .args .from) fills counts room o there (c .before .before .before .before .before .before .before .before .is-a-short .ensures) (c .before .before .before .before .before .before .seat .ensures) (c .before .before .before .sums-with .ensures) in
+          let b = next-tally r k on es x (s .args .bounds) stands (s .args .sizes) (s .pre .1 .0 .0) (s .pre .1 .0 .1 .0) m (s .args .sums) (s .args .tally) (s .args .from) fills counts room o there (c .before .before .before .before .before .before .before .before .is-a-short .ensures) (c .before .before .before .before .before .before .seat .ensures) (c .before .before .tally-with .ensures) in
+          two-calls (s .args .sizes) (weighed (terms r k on (s .args .objectives) (s .args .count)) es) (x .queued) (s .args .from) (s .args .rest) (s .args .left) m (soFarOf (s .args .best)) z l (omega (arith, s .pre .1 .0, s .pre .1 .1 .0)) (c .before .before .before .before .before .before .seat .ensures) (c .before .walk .ensures .1 r k on es (omega (arith, l, z, h)) stands a b) (through-short (s .args .sizes) (weighed (terms r k on (s .args .objectives) (s .args .count)) es) m (s .args .left) _ _ short),
     )
 
 walk-add-walk-2 : (t : ℕ) → walk-lts.Need-add-walk-2 (calls t) (walk-at t) walk.Post
@@ -192,7 +192,7 @@ walk-walk-requires-2 t c κs =
 walk-returns-5 : (t : ℕ) → walk-lts.Need-returns-5 (calls t) (walk-at t) walk.Post
 walk-returns-5 t c =
     let s = c .before .before .before .before .before .before .before .before .before .before .before .before .before in
-    let x : Columns = (columns (s .args .queued .now) (s .args .rows .now) (s .args .rated .now) (s .args .admits .now) (s .args .counts .now) (s .args .same .now) (s .args .friends .now) (s .args .foes .now)) in
+    let x : Columns = (columns (s .args .queued .now) (s .args .rows .now) (s .args .rated .now) (s .args .admits .now) (s .args .counts .now) (s .args .same .now) (s .args .expected .now) (s .args .foes .now)) in
     let m = matchOf (s .args .teams) in
     let z = c .before .before .before .before .before .before .before .before .before .before .before .if2 .left in
     let l : s .args .left ≤ s .args .rest = omega (arith, c .before .before .before .before .before .before .before .before .before .before .before .before .if1 .left) in
@@ -200,11 +200,11 @@ walk-returns-5 t c =
     let room : length (seated m) < seatsOf (s .args .sizes) = omega (arith, z, s .pre .1 .0) in
     let g = ways-step (s .args .rest) (s .args .left) z l in (
       omega (arith, g, c .before .before .walk .ensures .0, c .walk2 .ensures .0),
-      λ r k n h stands fills counts.
-          let o : s .args .from < n = omega (arith, l, z, h) in
-          let a = next-sums r k n x (s .args .bounds) stands (s .args .sizes) (s .pre .1 .0 .0) (s .pre .1 .0 .1 .0) m (s .args .sums) (s .args .tally) (s .args .from) fills counts room o there (c .before .before .before .before .before .before .before .before .before .is-a-short .ensures) (c .before .before .before .before .before .before .before .seat .ensures) (c .before .before .before .before .sums-with .ensures) in
-          let b = next-tally r k n x (s .args .bounds) stands (s .args .sizes) (s .pre .1 .0 .0) (s .pre .1 .0 .1 .0) m (s .args .sums) (s .args .tally) (s .args .from) fills counts room o there (c .before .before .before .before .before .before .before .before .before .is-a-short .ensures) (c .before .before .before .before .before .before .before .seat .ensures) (c .before .before .before .tally-with .ensures) in
-          two-calls (s .args .sizes) (weighed (terms r k (s .args .objectives) (s .args .count))) (x .queued) (s .args .from) (s .args .rest) (s .args .left) m (soFarOf (s .args .best)) z l (omega (arith, s .pre .1 .0, s .pre .1 .1 .0)) (c .before .before .before .before .before .before .before .seat .ensures) (c .before .before .walk .ensures .1 r k n (omega (arith, l, z, h)) stands a b) (c .walk2 .ensures .1 r k n (omega (arith, l, z, h)) stands fills counts),
+      λ r k on es h stands fills counts.
+          let o : s .args .from < length es = omega (arith, l, z, h) in
+          let a = next-sums r k on es x (s .args .bounds) stands (s .args .sizes) (s .pre .1 .0 .0) (s .pre .1 .0 .1 .0) m (s .args .sums) (s .args .tally) (s .args .from) fills counts room o there (c .before .before .before .before .before .before .before .before .before .is-a-short .ensures) (c .before .before .before .before .before .before .before .seat .ensures) (c .before .before .before .before .sums-with .ensures) in
+          let b = next-tally r k on es x (s .args .bounds) stands (s .args .sizes) (s .pre .1 .0 .0) (s .pre .1 .0 .1 .0) m (s .args .sums) (s .args .tally) (s .args .from) fills counts room o there (c .before .before .before .before .before .before .before .before .before .is-a-short .ensures) (c .before .before .before .before .before .before .before .seat .ensures) (c .before .before .before .tally-with .ensures) in
+          two-calls (s .args .sizes) (weighed (terms r k on (s .args .objectives) (s .args .count)) es) (x .queued) (s .args .from) (s .args .rest) (s .args .left) m (soFarOf (s .args .best)) z l (omega (arith, s .pre .1 .0, s .pre .1 .1 .0)) (c .before .before .before .before .before .before .before .seat .ensures) (c .before .before .walk .ensures .1 r k on es (omega (arith, l, z, h)) stands a b) (c .walk2 .ensures .1 r k on es (omega (arith, l, z, h)) stands fills counts),
     )
 
 pub +walk-spec : {M : Type 1} → statement M

@@ -24,7 +24,7 @@ refuse-requires c κs = search needs
 returns : tie.Need-returns
 returns c =
     let s = c .before .before .before .before .before .before .before .before .before .before .args in
-    let t = terms (ofRules (s .ids .now) (s .ratings .now) (s .parties .now) (s .roles .now) (s .regions .now)) (s .constraints) (s .objectives) (s .count) in
+    let t = terms (ofRules (s .ids .now) (s .ratings .now) (s .parties .now) (s .roles .now) (s .regions .now)) (s .constraints) (s .friends) (s .objectives) (s .count) in
     parts-by _ (guard-refuses (chosen t (s .sizes) (take (s .queue .len) (s .queue .entries))) _ (c .before .before .refusal .given .1) (c .before .before .before .before .check .ensures)) (c .refuse .ensures)
 
 enum-told : tie.Need-enum-told
@@ -41,7 +41,7 @@ returns-2 c =
     let x = c .before .before .before .before .before .before .before .before .before .before in
     let s = x .args in
     let r = ofRules (s .ids .now) (s .ratings .now) (s .parties .now) (s .roles .now) (s .regions .now) in
-    let t = terms r (s .constraints) (s .objectives) (s .count) in
+    let t = terms r (s .constraints) (s .friends) (s .objectives) (s .count) in
     let checked = c .before .before .before .before .check .ensures in
     let passed = c .before .before .enum-told .given .1 in
     let w : length (s .queue .entries) ≡ 64 = search (unmapped, needs, x .good .0) in

@@ -23,17 +23,17 @@ use Rattle.choice.proofs.seat_last.Statement.{statement}
 use Rattle.choice.proofs.seat_last.Tie as tie
 
 abbrev Inv-loop : tie.InvT-loop
-Inv-loop sizes queued rows rated admits counts same friends foes from rest teams sums tally bounds objectives count first out₀ at₀ left₀ out at left =
-    (at + left ≡ from + rest) × ((out .tried + left ≡ out₀ .tried + rest) × Onward sizes (columns queued rows rated admits counts same friends foes) bounds from rest 1 (matchOf teams) sums tally objectives count (soFarOf out₀) at left (soFarOf out))
+Inv-loop sizes queued rows rated admits counts same expected foes from rest teams sums tally bounds objectives count first out₀ at₀ left₀ out at left =
+    (at + left ≡ from + rest) × ((out .tried + left ≡ out₀ .tried + rest) × Onward sizes (columns queued rows rated admits counts same expected foes) bounds from rest 1 (matchOf teams) sums tally objectives count (soFarOf out₀) at left (soFarOf out))
 
 abbrev μ-loop : tie.MeasureT-loop
-μ-loop sizes queued rows rated admits counts same friends foes from rest teams sums tally bounds objectives count first out₀ at₀ left₀ out at left = left
+μ-loop sizes queued rows rated admits counts same expected foes from rest teams sums tally bounds objectives count first out₀ at₀ left₀ out at left = left
 
 is-a-short-requires : tie.Need-is-a-short-requires Inv-loop μ-loop
 is-a-short-requires c κs = search needs
 
 loop-holds : tie.Need-loop-holds Inv-loop μ-loop
-loop-holds c = (refl, (refl, λ r c n l stands fills counts. refl))
+loop-holds c = (refl, (refl, λ r c on es l stands fills counts. refl))
 
 element-copy-out-sums-with : tie.Need-element-copy-out-sums-with Inv-loop μ-loop
 element-copy-out-sums-with c = omega (arith, c .before .loop .inv .0, c .loop-test .taken, c .before .before .before .pre .0)
@@ -71,20 +71,20 @@ loop-again : tie.Need-loop-again Inv-loop μ-loop
 loop-again c =
     let s = c .before .before .before .before .before .before .before .before .before .before in
     let l = c .before .before .before .before .before .before .before .before .loop in
-    let x : Columns = (columns (s .args .queued .now) (s .args .rows .now) (s .args .rated .now) (s .args .admits .now) (s .args .counts .now) (s .args .same .now) (s .args .friends .now) (s .args .foes .now)) in
+    let x : Columns = (columns (s .args .queued .now) (s .args .rows .now) (s .args .rated .now) (s .args .admits .now) (s .args .counts .now) (s .args .same .now) (s .args .expected .now) (s .args .foes .now)) in
     let m = matchOf (s .args .teams) in
     let some = c .before .before .before .before .before .before .before .loop-test .taken in
     let near : l .at < s .args .from + s .args .rest = omega (arith, l .inv .0, some) in (
       omega (arith, l .inv .0, some),
       (
         omega (arith, ap (λ (b : SoFar). b .tried) (c .skip .ensures), l .inv .1 .0, some),
-        λ r k n h stands fills counts.
+        λ r k on es h stands fills counts.
             let e =
             c .before .before .before .score-of .ensures
             ∙ ap (λ (y : Sums). scoreBy (take (s .args .count) (s .args .objectives)) y (s .args .sizes .a) (s .args .sizes .b)) (c .before .before .before .before .sums-with .ensures)
             ∙ last-score r (s .args .sizes) m (s .args .sums) (getD (x .queued) (l .at) 0) (take (s .args .count) (s .args .objectives)) (getD (x .rows) (l .at) false) (c .before .before .before .before .before .before .before .before .before .is-a-short .result) (getD (x .rated) (l .at) nan) (grown-read (stands .says (l .at) (omega (arith, near, h)))) fills (s .pre .0 .0) (s .pre .0 .1 .0) (s .pre .0 .1 .1 .1) (c .before .before .before .before .before .before .before .before .before .is-a-short .ensures) in
-            let i = idle-skipped (terms r k (s .args .objectives) (s .args .count)) (seatedNext (s .args .sizes) m (getD (x .queued) (l .at) 0)) (l .out .tried) (l .out .found) (l .out .many) (l .out .nan) (record { teams = matchOf (l .out .teams); score = l .out .score }) e (c .before .before .is-idle .ensures) (c .before .if1 .taken) in
-            last-next (s .args .sizes) (weighed (terms r k (s .args .objectives) (s .args .count))) (x .queued) m (l .at) (l .left) (soFarOf (l .out)) (l .inv .1 .1 r k n h stands fills counts) some (omega (arith, l .inv .0, s .pre .0, s .pre .1 .0)) refl (c .skip .ensures ∙ i),
+            let i = idle-skipped (terms r k on (s .args .objectives) (s .args .count)) es (seatedNext (s .args .sizes) m (getD (x .queued) (l .at) 0)) (l .out .tried) (l .out .found) (l .out .many) (l .out .nan) (record { teams = matchOf (l .out .teams); score = l .out .score }) e (c .before .before .is-idle .ensures) (c .before .if1 .taken) in
+            last-next (s .args .sizes) (weighed (terms r k on (s .args .objectives) (s .args .count)) es) (x .queued) m (l .at) (l .left) (soFarOf (l .out)) (l .inv .1 .1 r k on es h stands fills counts) some (omega (arith, l .inv .0, s .pre .0, s .pre .1 .0)) refl (c .skip .ensures ∙ i),
       ),
     )
 
@@ -124,7 +124,7 @@ loop-again-2 : tie.Need-loop-again-2 Inv-loop μ-loop
 loop-again-2 c =
     let s = c .before .before .before .before .before .before .before .before .before .before .before .before .before .before in
     let l = c .before .before .before .before .before .before .before .before .before .before .before .before .loop in
-    let x : Columns = (columns (s .args .queued .now) (s .args .rows .now) (s .args .rated .now) (s .args .admits .now) (s .args .counts .now) (s .args .same .now) (s .args .friends .now) (s .args .foes .now)) in
+    let x : Columns = (columns (s .args .queued .now) (s .args .rows .now) (s .args .rated .now) (s .args .admits .now) (s .args .counts .now) (s .args .same .now) (s .args .expected .now) (s .args .foes .now)) in
     let m = matchOf (s .args .teams) in
     let some = c .before .before .before .before .before .before .before .before .before .before .before .loop-test .taken in
     let near : l .at < s .args .from + s .args .rest = omega (arith, l .inv .0, some) in
@@ -135,12 +135,12 @@ loop-again-2 c =
       omega (arith, l .inv .0, some),
       (
         omega (arith, d, l .inv .1 .0, some),
-        λ r k n h stands fills counts.
-            let o : l .at < n = omega (arith, near, h) in
-            let f = next-sums r k n x (s .args .bounds) stands (s .args .sizes) (s .pre .0 .0) (s .pre .0 .1 .0) m (s .args .sums) (s .args .tally) (l .at) fills counts room o there (c .before .before .before .before .before .before .before .before .before .before .before .before .before .is-a-short .ensures) (c .before .seat .ensures) (c .before .before .before .before .before .before .before .before .sums-with .ensures) in
-            let g = next-tally r k n x (s .args .bounds) stands (s .args .sizes) (s .pre .0 .0) (s .pre .0 .1 .0) m (s .args .sums) (s .args .tally) (l .at) fills counts room o there (c .before .before .before .before .before .before .before .before .before .before .before .before .before .is-a-short .ensures) (c .before .seat .ensures) (c .before .before .before .before .tally-with .ensures) in
-            let w = whole-weighed r k n x (s .args .bounds) stands (s .args .sizes) (s .pre .0 .0) (s .pre .0 .1 .0) (s .args .objectives) (s .args .count) (soFarOf (l .out)) (matchOf (c .before .seat .result)) (c .before .before .before .before .before .before .before .before .sums-with .result) (c .before .before .before .before .tally-with .result) f g (e ∙ s .pre .0 .1 .1 .1) (c .before .before .before .passes .ensures) (c .before .before .before .before .before .before .before .score-of .ensures) in
-            last-next (s .args .sizes) (weighed (terms r k (s .args .objectives) (s .args .count))) (x .queued) m (l .at) (l .left) (soFarOf (l .out)) (l .inv .1 .1 r k n h stands fills counts) some (omega (arith, l .inv .0, s .pre .0, s .pre .1 .0)) (c .before .seat .ensures) (c .weigh .ensures ∙ w),
+        λ r k on es h stands fills counts.
+            let o : l .at < length es = omega (arith, near, h) in
+            let f = next-sums r k on es x (s .args .bounds) stands (s .args .sizes) (s .pre .0 .0) (s .pre .0 .1 .0) m (s .args .sums) (s .args .tally) (l .at) fills counts room o there (c .before .before .before .before .before .before .before .before .before .before .before .before .before .is-a-short .ensures) (c .before .seat .ensures) (c .before .before .before .before .before .before .before .before .sums-with .ensures) in
+            let g = next-tally r k on es x (s .args .bounds) stands (s .args .sizes) (s .pre .0 .0) (s .pre .0 .1 .0) m (s .args .sums) (s .args .tally) (l .at) fills counts room o there (c .before .before .before .before .before .before .before .before .before .before .before .before .before .is-a-short .ensures) (c .before .seat .ensures) (c .before .before .before .before .tally-with .ensures) in
+            let w = whole-weighed r k on es x (s .args .bounds) stands (s .args .sizes) (s .pre .0 .0) (s .pre .0 .1 .0) (s .args .objectives) (s .args .count) (soFarOf (l .out)) (matchOf (c .before .seat .result)) (c .before .before .before .before .before .before .before .before .sums-with .result) (c .before .before .before .before .tally-with .result) f g (e ∙ s .pre .0 .1 .1 .1) (c .before .before .before .passes .ensures) (c .before .before .before .before .before .before .before .score-of .ensures) in
+            last-next (s .args .sizes) (weighed (terms r k on (s .args .objectives) (s .args .count)) es) (x .queued) m (l .at) (l .left) (soFarOf (l .out)) (l .inv .1 .1 r k on es h stands fills counts) some (omega (arith, l .inv .0, s .pre .0, s .pre .1 .0)) (c .before .seat .ensures) (c .weigh .ensures ∙ w),
       ),
     )
 
@@ -149,7 +149,7 @@ returns c =
     let s = c .before .before .before in
     let l = c .before .loop in
     let z : l .left ≡ 0 = omega (arith, c .loop-test .left) in
-    (omega (arith, l .inv .1 .0, z, ways-one (s .args .rest)), onward-end (s .args .sizes) (columns (s .args .queued .now) (s .args .rows .now) (s .args .rated .now) (s .args .admits .now) (s .args .counts .now) (s .args .same .now) (s .args .friends .now) (s .args .foes .now)) (s .args .bounds) (s .args .from) (s .args .rest) 1 (matchOf (s .args .teams)) (s .args .sums) (s .args .tally) (s .args .objectives) (s .args .count) (soFarOf (s .args .best)) (l .at) (l .left) (soFarOf (l .out)) (l .inv .1 .1) (omega (arith, z)))
+    (omega (arith, l .inv .1 .0, z, ways-one (s .args .rest)), onward-end (s .args .sizes) (columns (s .args .queued .now) (s .args .rows .now) (s .args .rated .now) (s .args .admits .now) (s .args .counts .now) (s .args .same .now) (s .args .expected .now) (s .args .foes .now)) (s .args .bounds) (s .args .from) (s .args .rest) 1 (matchOf (s .args .teams)) (s .args .sums) (s .args .tally) (s .args .objectives) (s .args .count) (soFarOf (s .args .best)) (l .at) (l .left) (soFarOf (l .out)) (l .inv .1 .1) (omega (arith, z)))
 
 pub seat-last-spec : {M : Type 1} → statement M
 seat-last-spec =

@@ -20,11 +20,11 @@ use Rattle.choice.proofs.seat_two.Statement.{statement}
 use Rattle.choice.proofs.seat_two.Tie as tie
 
 abbrev Inv-loop : tie.InvT-loop
-Inv-loop sizes queued rows rated admits counts same friends foes from rest teams sums tally bounds objectives count first second out₀ at₀ behind₀ out at behind =
-    (at + behind ≡ from + rest) × ((out .tried + ways behind 2 ≡ out₀ .tried + ways rest 2) × Onward sizes (columns queued rows rated admits counts same friends foes) bounds from rest 2 (matchOf teams) sums tally objectives count (soFarOf out₀) at behind (soFarOf out))
+Inv-loop sizes queued rows rated admits counts same expected foes from rest teams sums tally bounds objectives count first second out₀ at₀ behind₀ out at behind =
+    (at + behind ≡ from + rest) × ((out .tried + ways behind 2 ≡ out₀ .tried + ways rest 2) × Onward sizes (columns queued rows rated admits counts same expected foes) bounds from rest 2 (matchOf teams) sums tally objectives count (soFarOf out₀) at behind (soFarOf out))
 
 abbrev μ-loop : tie.MeasureT-loop
-μ-loop sizes queued rows rated admits counts same friends foes from rest teams sums tally bounds objectives count first second out₀ at₀ behind₀ out at behind = behind
+μ-loop sizes queued rows rated admits counts same expected foes from rest teams sums tally bounds objectives count first second out₀ at₀ behind₀ out at behind = behind
 
 is-a-short-requires : tie.Need-is-a-short-requires Inv-loop μ-loop
 is-a-short-requires c κs = search needs
@@ -36,7 +36,7 @@ is-a-short-by-two-requires c κs =
     omega (arith, s .pre .0, length-append (m .a .players) (m .b .players))
 
 loop-holds : tie.Need-loop-holds Inv-loop μ-loop
-loop-holds c = (refl, (refl, λ r c n l stands fills counts. refl))
+loop-holds c = (refl, (refl, λ r c on es l stands fills counts. refl))
 
 element-copy-out-sums-with : tie.Need-element-copy-out-sums-with Inv-loop μ-loop
 element-copy-out-sums-with c = omega (arith, c .before .loop .inv .0, c .loop-test .taken, c .before .before .before .before .pre .0)
@@ -83,7 +83,7 @@ loop-again : tie.Need-loop-again Inv-loop μ-loop
 loop-again c =
     let s = c .before .before .before .before .before .before .before .before .before .before in
     let l = c .before .before .before .before .before .before .before .loop in
-    let x : Columns = (columns (s .args .queued .now) (s .args .rows .now) (s .args .rated .now) (s .args .admits .now) (s .args .counts .now) (s .args .same .now) (s .args .friends .now) (s .args .foes .now)) in
+    let x : Columns = (columns (s .args .queued .now) (s .args .rows .now) (s .args .rated .now) (s .args .admits .now) (s .args .counts .now) (s .args .same .now) (s .args .expected .now) (s .args .foes .now)) in
     let m = matchOf (s .args .teams) in
     let p = getD (x .queued) (l .at) 0 in
     let two : 2 ≤ l .behind = omega (arith, c .before .before .before .before .before .before .loop-test .taken) in
@@ -97,10 +97,10 @@ loop-again c =
       omega (arith, l .inv .0, two),
       (
         omega (arith, ways-step (l .behind) 2 z two, ways-one (l .behind - 1), d, l .inv .1 .0),
-        λ r k n h stands fills counts.
-            let f = next-sums r k n x (s .args .bounds) stands (s .args .sizes) (s .pre .0 .0) (s .pre .0 .1 .0) m (s .args .sums) (s .args .tally) (l .at) fills counts room (omega (arith, near, h)) there (c .before .before .before .before .before .before .before .before .before .is-a-short .ensures) refl (c .before .before .before .sums-with .ensures) in
-            let y = two-idle r k n x (s .args .bounds) stands (s .args .objectives) (s .args .count) (s .args .sizes) (s .pre .0 .0) (s .pre .0 .1 .0) (seatedNext (s .args .sizes) m p) (c .before .before .before .sums-with .result) (c .before .before .before .before .before .before .before .before .is-a-short-by-two .result) (l .out .found) (l .out .many) (l .out .nan) (record { teams = matchOf (l .out .teams); score = l .out .score }) (l .at + 1) (l .behind - 1) (l .out .tried) f e g (omega (arith, l .inv .0, two, h)) (omega (arith, l .inv .0, two, s .pre .0, s .pre .1 .0)) (c .before .before .are-idle .ensures) (c .before .if1 .taken) in
-            walk-next (s .args .sizes) (weighed (terms r k (s .args .objectives) (s .args .count))) (x .queued) m 2 (l .at) (l .behind) (soFarOf (l .out)) (l .inv .1 .1 r k n h stands fills counts) z two (omega (arith, l .inv .0, s .pre .0, s .pre .1 .0)) refl (c .skip-all .ensures ∙ y),
+        λ r k on es h stands fills counts.
+            let f = next-sums r k on es x (s .args .bounds) stands (s .args .sizes) (s .pre .0 .0) (s .pre .0 .1 .0) m (s .args .sums) (s .args .tally) (l .at) fills counts room (omega (arith, near, h)) there (c .before .before .before .before .before .before .before .before .before .is-a-short .ensures) refl (c .before .before .before .sums-with .ensures) in
+            let y = two-idle r k on es x (s .args .bounds) stands (s .args .objectives) (s .args .count) (s .args .sizes) (s .pre .0 .0) (s .pre .0 .1 .0) (seatedNext (s .args .sizes) m p) (c .before .before .before .sums-with .result) (c .before .before .before .before .before .before .before .before .is-a-short-by-two .result) (l .out .found) (l .out .many) (l .out .nan) (record { teams = matchOf (l .out .teams); score = l .out .score }) (l .at + 1) (l .behind - 1) (l .out .tried) f e g (omega (arith, l .inv .0, two, h)) (omega (arith, l .inv .0, two, s .pre .0, s .pre .1 .0)) (c .before .before .are-idle .ensures) (c .before .if1 .taken) in
+            walk-next (s .args .sizes) (weighed (terms r k on (s .args .objectives) (s .args .count)) es) (x .queued) m 2 (l .at) (l .behind) (soFarOf (l .out)) (l .inv .1 .1 r k on es h stands fills counts) z two (omega (arith, l .inv .0, s .pre .0, s .pre .1 .0)) refl (c .skip-all .ensures ∙ y),
       ),
     )
 
@@ -135,7 +135,7 @@ seat-last-requires c κs =
     let w = ways-step (l .behind) 2 z two in
     let room : length (seated m) < seatsOf (s .args .sizes) = omega (arith, s .pre .0) in
     let e = ap (λ (y : MatchState). length (seated y)) (c .before .seat .ensures) ∙ seat-more (s .args .sizes) m (getD (s .args .queued .now) (l .at) 0) (s .pre .0 .0) (s .pre .0 .1 .0) room in
-    let f = counts-with (s .args .tally) (c .before .before .before .before .before .before .before .before .before .before .before .is-a-short .result) (getD (s .args .admits .now) (l .at) false) (getD (s .args .counts .now) (l .at) 0) (getD (s .args .same .now) (l .at) 0) (getD (s .args .friends .now) (l .at) 0) (getD (s .args .foes .now) (l .at) 0) (c .tally-with .ensures) in
+    let f = counts-with (s .args .tally) (c .before .before .before .before .before .before .before .before .before .before .before .is-a-short .result) (getD (s .args .admits .now) (l .at) false) (getD (s .args .counts .now) (l .at) 0) (getD (s .args .same .now) (l .at) 0) (getD (s .args .expected .now) (l .at) 0) (getD (s .args .foes .now) (l .at) 0) (c .tally-with .ensures) in
     ((s .pre .0 .0, (s .pre .0 .1 .0, (omega (arith, l .inv .0, s .pre .0, two), omega (arith, e, s .pre .0)))), (s .pre .1 .0, (omega (arith, w, l .inv .1 .0, s .pre .1 .1 .0), (omega (arith, f, s .pre .1 .1 .1 .0, s .pre .1 .1 .1 .1 (l .at)), s .pre .1 .1 .1 .1))))
 
 add-at-2 : tie.Need-add-at-2 Inv-loop μ-loop
@@ -151,7 +151,7 @@ loop-again-2 : tie.Need-loop-again-2 Inv-loop μ-loop
 loop-again-2 c =
     let s = c .before .before .before .before .before .before .before .before .before .before .before .before .before in
     let l = c .before .before .before .before .before .before .before .before .before .before .loop in
-    let x : Columns = (columns (s .args .queued .now) (s .args .rows .now) (s .args .rated .now) (s .args .admits .now) (s .args .counts .now) (s .args .same .now) (s .args .friends .now) (s .args .foes .now)) in
+    let x : Columns = (columns (s .args .queued .now) (s .args .rows .now) (s .args .rated .now) (s .args .admits .now) (s .args .counts .now) (s .args .same .now) (s .args .expected .now) (s .args .foes .now)) in
     let m = matchOf (s .args .teams) in
     let two : 2 ≤ l .behind = omega (arith, c .before .before .before .before .before .before .before .before .before .loop-test .taken) in
     let z : _≡_ {A = ℕ} 2 0 → ⊥ = λ n. omega arith in
@@ -161,11 +161,11 @@ loop-again-2 c =
       omega (arith, l .inv .0, two),
       (
         omega (arith, ways-step (l .behind) 2 z two, c .seat-last .ensures .0, l .inv .1 .0),
-        λ r k n h stands fills counts.
-            let o : l .at < n = omega (arith, near, h) in
-            let f = next-sums r k n x (s .args .bounds) stands (s .args .sizes) (s .pre .0 .0) (s .pre .0 .1 .0) m (s .args .sums) (s .args .tally) (l .at) fills counts room o there (c .before .before .before .before .before .before .before .before .before .before .before .before .is-a-short .ensures) (c .before .before .seat .ensures) (c .before .before .before .before .before .before .sums-with .ensures) in
-            let g = next-tally r k n x (s .args .bounds) stands (s .args .sizes) (s .pre .0 .0) (s .pre .0 .1 .0) m (s .args .sums) (s .args .tally) (l .at) fills counts room o there (c .before .before .before .before .before .before .before .before .before .before .before .before .is-a-short .ensures) (c .before .before .seat .ensures) (c .before .tally-with .ensures) in
-            walk-next (s .args .sizes) (weighed (terms r k (s .args .objectives) (s .args .count))) (x .queued) m 2 (l .at) (l .behind) (soFarOf (l .out)) (l .inv .1 .1 r k n h stands fills counts) z two (omega (arith, l .inv .0, s .pre .0, s .pre .1 .0)) (c .before .before .seat .ensures) (c .seat-last .ensures .1 r k n (omega (arith, l .inv .0, two, h)) stands f g),
+        λ r k on es h stands fills counts.
+            let o : l .at < length es = omega (arith, near, h) in
+            let f = next-sums r k on es x (s .args .bounds) stands (s .args .sizes) (s .pre .0 .0) (s .pre .0 .1 .0) m (s .args .sums) (s .args .tally) (l .at) fills counts room o there (c .before .before .before .before .before .before .before .before .before .before .before .before .is-a-short .ensures) (c .before .before .seat .ensures) (c .before .before .before .before .before .before .sums-with .ensures) in
+            let g = next-tally r k on es x (s .args .bounds) stands (s .args .sizes) (s .pre .0 .0) (s .pre .0 .1 .0) m (s .args .sums) (s .args .tally) (l .at) fills counts room o there (c .before .before .before .before .before .before .before .before .before .before .before .before .is-a-short .ensures) (c .before .before .seat .ensures) (c .before .tally-with .ensures) in
+            walk-next (s .args .sizes) (weighed (terms r k on (s .args .objectives) (s .args .count)) es) (x .queued) m 2 (l .at) (l .behind) (soFarOf (l .out)) (l .inv .1 .1 r k on es h stands fills counts) z two (omega (arith, l .inv .0, s .pre .0, s .pre .1 .0)) (c .before .before .seat .ensures) (c .seat-last .ensures .1 r k on es (omega (arith, l .inv .0, two, h)) stands f g),
       ),
     )
 
@@ -174,7 +174,7 @@ returns c =
     let s = c .before .before .before .before in
     let l = c .before .loop in
     let few : l .behind < 2 = omega (arith, c .loop-test .left) in
-    (omega (arith, l .inv .1 .0, ways-short (l .behind) 2 few), onward-end (s .args .sizes) (columns (s .args .queued .now) (s .args .rows .now) (s .args .rated .now) (s .args .admits .now) (s .args .counts .now) (s .args .same .now) (s .args .friends .now) (s .args .foes .now)) (s .args .bounds) (s .args .from) (s .args .rest) 2 (matchOf (s .args .teams)) (s .args .sums) (s .args .tally) (s .args .objectives) (s .args .count) (soFarOf (s .args .best)) (l .at) (l .behind) (soFarOf (l .out)) (l .inv .1 .1) few)
+    (omega (arith, l .inv .1 .0, ways-short (l .behind) 2 few), onward-end (s .args .sizes) (columns (s .args .queued .now) (s .args .rows .now) (s .args .rated .now) (s .args .admits .now) (s .args .counts .now) (s .args .same .now) (s .args .expected .now) (s .args .foes .now)) (s .args .bounds) (s .args .from) (s .args .rest) 2 (matchOf (s .args .teams)) (s .args .sums) (s .args .tally) (s .args .objectives) (s .args .count) (soFarOf (s .args .best)) (l .at) (l .behind) (soFarOf (l .out)) (l .inv .1 .1) few)
 
 pub seat-two-spec : {M : Type 1} → statement M
 seat-two-spec =

@@ -98,6 +98,7 @@ fn after_columns(
         asked.queue,
         asked.sizes,
         asked.constraints,
+        false,
         objectives::of_kinds(kinds, weights),
         listed.count,
         ids,

@@ -1,9 +1,11 @@
-//! The best choice of a full round: every kind of constraint, every kind of soft objective.
+//! The best choice of a full round: every kind of constraint, every kind of soft objective. And a full round of the hall, with waiting
+//! friends besides.
 
 use crate::call::{Call, Row};
-use crate::crowd::Crowd;
+use crate::crowd::{CLOCK, Crowd, sheets};
 use crate::rows::Scene;
-use compare::data::Roster;
+use compare::data::{Roster, Sheets};
+use compare::model::friends_seated;
 use compare::rng::Rng;
 use compare::translate::{from_players, to_objectives, to_policy, to_queue, to_teams};
 use matchlab_core::match_;
@@ -16,12 +18,15 @@ use matchlab_matchmaking::policy::MatchPolicy;
 use matchlab_matchmaking::queue;
 use matchlab_matchmaking::selection::{GreedySelection, MatchSelectionPolicy};
 use yilgashe_sys::{
-    self as library, Brought, Chosen, Constraints, Queue, RegionConstraint, RegionPair,
-    RoleRequirement, RoleRequirements, SoftObjectives, TeamComposition, TeamSizeConstraint,
+    self as library, Booking, Brought, Chosen, Constraints, Hall, Queue, RegionConstraint,
+    RegionPair, RoleRequirement, RoleRequirements, RoundRules, Rounded, SoftObjectives,
+    TeamComposition, TeamSizeConstraint,
 };
 
 const ASIA: u8 = 2;
 const OTHER: u8 = 3;
+/// So many pairs of guests wait as friends.
+const PAIRS: u64 = 6;
 
 pub fn row(seed: u64, scene: Scene) -> Row {
     Row::of(
@@ -35,6 +40,14 @@ pub fn alike(seed: u64, scene: Scene) -> Row {
     Row::of(
         format!("full round, {scene}, equal scores"),
         vec![Round::drawn(seed, scene, wait())],
+    )
+}
+
+/// Of the hall, with friends among those who wait, whom the Rust knows nothing of: its call is that of the first row.
+pub fn befriended(seed: u64, scene: Scene) -> Row {
+    Row::of(
+        format!("full round, {scene}, waiting friends"),
+        vec![Befriended::drawn(seed, scene)],
     )
 }
 
@@ -136,6 +149,98 @@ impl Call for Round {
         let passed = listed.iter().filter(|proposed| self.passes(proposed));
         let share = 100.0 * passed.count() as f64 / tried as f64;
         format!("{tried} tried, {share:.0}% pass")
+    }
+}
+
+/// The round in a hall where friends wait in pairs, by their bookings; the friends of the roster are others or the same.
+struct Befriended {
+    round: Round,
+    hall: Hall,
+    sheets: Sheets,
+}
+
+impl Befriended {
+    fn drawn(seed: u64, scene: Scene) -> Self {
+        let mut round = Round::drawn(seed, scene, objectives());
+        let mut places: Vec<usize> = (0..scene.entries).collect();
+        Rng::for_case(seed, "friends", 0).shuffle(&mut places);
+        for (party, pair) in (1..=PAIRS).zip(places.chunks(2)) {
+            for &place in pair {
+                round.queue.entries[place].party = party;
+            }
+        }
+        round.waiting = to_queue(&round.queue);
+        let waiting = round.queue.waiting().iter();
+        let bookings: Vec<Booking> = waiting.map(Booking::of).collect();
+        Befriended {
+            hall: Hall::of(&bookings, &[]),
+            sheets: sheets(),
+            round,
+        }
+    }
+
+    fn passes(&self, proposed: &ProposedMatch) -> bool {
+        self.round.passes(proposed) && friends_seated(self.round.queue.waiting(), &seats(proposed))
+    }
+}
+
+/// Of team A, then of team B.
+fn seats(proposed: &ProposedMatch) -> Vec<u64> {
+    from_players(&[&proposed.team_a[..], &proposed.team_b].concat())
+}
+
+impl Call for Befriended {
+    type Rust = (u64, Vec<ProposedMatch>);
+    type Library = Rounded;
+
+    /// Without waiting friends.
+    fn rust(&self) -> Self::Rust {
+        self.round.rust()
+    }
+
+    fn library(&mut self) -> Rounded {
+        let Round {
+            sizes,
+            constraints,
+            objectives,
+            roster,
+            ..
+        } = &self.round;
+        let rules = RoundRules {
+            constraints: *constraints,
+            waiting_friends: true,
+        };
+        library::hall_full_round(
+            self.hall,
+            *sizes,
+            rules,
+            *objectives,
+            CLOCK,
+            &roster.ids,
+            &roster.ratings,
+            &roster.parties,
+            &roster.roles,
+            &roster.regions,
+            &mut self.sheets.players,
+            &mut self.sheets.qualities,
+        )
+    }
+
+    /// Of the Rust's choices those that part friends are left out before it selects; some pass.
+    fn agree(&mut self) -> String {
+        let mut matches = self.round.listed();
+        let tried = matches.len();
+        matches.retain(|proposed| self.passes(proposed));
+        let passed = matches.len();
+        assert!(passed > 0, "friends bar every choice");
+        let best = self.round.selection.select(matches, &self.round.world);
+        let rounded = self.library();
+        let numbers = (rounded.refusal, rounded.count, rounded.tried);
+        assert_eq!(numbers, (0, 1, tried as u64));
+        let best = seats(&best[0]);
+        assert_eq!(self.sheets.players[..best.len()], best);
+        let share = 100.0 * passed as f64 / tried as f64;
+        format!("{tried} tried, {share:.1}% pass, Rust without friends")
     }
 }
 

@@ -1,7 +1,7 @@
 //! The calls of the hall, and what they answer.
 
 use super::{Columns, Rows, Sheets};
-use yilgashe_sys::{Constraints, MatchObjective, QueueEntry, SoftObjectives, TeamComposition};
+use yilgashe_sys::{MatchObjective, QueueEntry, RoundRules, SoftObjectives, TeamComposition};
 
 #[derive(Clone, Debug)]
 pub enum Call {
@@ -28,11 +28,14 @@ pub enum Search {
         objective: MatchObjective,
         columns: Columns,
     },
-    Full {
-        constraints: Constraints,
-        objectives: SoftObjectives,
-        rows: Rows,
-    },
+    Full(FullRound),
+}
+
+#[derive(Clone, Debug)]
+pub struct FullRound {
+    pub rules: RoundRules,
+    pub objectives: SoftObjectives,
+    pub rows: Rows,
 }
 
 /// What a call gives besides the hall, with its sheets as it leaves them. A keyed call has no matches and no sheets.
@@ -76,6 +79,17 @@ impl Call {
         }
     }
 
+    /// What a full round brings; none of any other call.
+    pub fn full_round(&self) -> Option<(&Round, &FullRound)> {
+        match self {
+            Call::Round(round) => match &round.search {
+                Search::Full(full) => Some((round, full)),
+                _ => None,
+            },
+            _ => None,
+        }
+    }
+
     /// What it is, in the words of the report.
     pub fn name(&self) -> &'static str {
         match self {
@@ -84,7 +98,7 @@ impl Call {
             Call::Round(round) => match round.search {
                 Search::Greedy(_) => "greedy_round",
                 Search::Beam { .. } => "beam_round",
-                Search::Full { .. } => "full_round",
+                Search::Full(_) => "full_round",
             },
         }
     }

@@ -35,6 +35,7 @@ pub(super) fn choice_among(
     let rows = rows(rng, scale, &players, Takes::ALL);
     let mut choice = Choice {
         constraints: constraints(rng, scale, &seats(&sizes), &rows),
+        waiting_friends: false,
         objectives: ranking_objectives(rng, scale),
         queue,
         sizes,

@@ -1,25 +1,28 @@
 //! Lists of calls from an empty hall, and single calls on halls of any kind.
 
 use super::choices::{choice_among, latency};
-use super::searches::{settle, some_seats, tie, width};
+use super::searches::{seats_of, settle, some_seats, tie, width};
 use super::{
     LONG, ODD_IDS, Ratings, Scale, Times, clock, entry, joined, late_time, later, match_objective,
-    party, player, queue, rating, role, searched_columns, sheets, team_sizes, times,
+    player, queue, rating, role, searched_columns, sheets, team_sizes, times,
 };
-use crate::data::{Call, Round, Search};
+use crate::data::{Call, FullRound, Round, Rows, Search};
 use crate::model::hall::{self, NOTE_LIMIT};
 use crate::model::{
-    self, BAD_ROSTER, LISTED_LIMIT, OVER_LIMIT, QUEUE_LIMIT, TEAM_LIMIT, WIDTH_LIMIT, ways,
+    self, BAD_ROSTER, LISTED_LIMIT, OVER_LIMIT, QUEUE_LIMIT, TEAM_LIMIT, WIDTH_LIMIT, choices,
+    friends_seated, ways,
 };
 use crate::rng::Rng;
 use std::array::from_fn;
-use yilgashe_sys::{Booking, Hall, Note, Queue, QueueEntry, TeamComposition};
+use yilgashe_sys::{Booking, Hall, Note, Queue, QueueEntry, RoundRules, TeamComposition};
 
 /// How a list goes.
 #[derive(Clone, Copy, Debug)]
 enum Mood {
     /// Few guests come, go and play.
     Plain,
+    /// Few are seated, by full rounds mostly, so that friends wait.
+    Friends,
     /// More come than the hall holds.
     Crowd,
     /// More keys come than the book holds.
@@ -45,6 +48,8 @@ struct Evening {
     fresh: u64,
     guests: Vec<u64>,
     ratings: Ratings,
+    /// Those that friends book with.
+    parties: Vec<u64>,
     times: Times,
     /// Nobody comes who joined before the last of those who wait.
     in_order: bool,
@@ -60,11 +65,30 @@ fn tying_ratings(rng: &mut Rng) -> Ratings {
     ])
 }
 
+/// So few that friends wait together, or one for two guests.
+fn parties(rng: &mut Rng, guests: usize) -> Vec<u64> {
+    let count = rng.pick(&[1, 2, 4, guests.div_ceil(2)]);
+    let mut parties: Vec<u64> = (1..=count as u64).collect();
+    if rng.one_in(3) {
+        parties[0] = u64::MAX;
+    }
+    parties
+}
+
+/// One of these, or none.
+fn party(rng: &mut Rng, parties: &[u64]) -> u64 {
+    match rng.one_in(3) {
+        true => 0,
+        false => rng.pick(parties),
+    }
+}
+
 /// By its number, so that every sort of list comes early.
 fn mood(number: u64) -> Mood {
     match number % 16 {
         3 => Mood::Long,
         1 | 6 | 11 => Mood::Crowd,
+        4 | 8 | 14 => Mood::Friends,
         _ => Mood::Plain,
     }
 }
@@ -74,7 +98,7 @@ pub fn list(rng: &mut Rng, number: u64) -> Vec<Call> {
     let mood = mood(number);
     let calls = match mood {
         Mood::Plain => rng.between(50, 300),
-        Mood::Crowd => rng.between(150, 300),
+        Mood::Friends | Mood::Crowd => rng.between(150, 300),
         Mood::Long => rng.between(1300, 1400),
     };
     let mut evening = Evening::open(rng, mood);
@@ -85,6 +109,7 @@ impl Evening {
     fn open(rng: &mut Rng, mood: Mood) -> Self {
         let size = match mood {
             Mood::Plain => rng.pick(&[3, 6, 12, 24, 40]),
+            Mood::Friends => rng.pick(&[8, 12, 18]),
             Mood::Crowd => 100,
             Mood::Long => rng.pick(&[8, 30]),
         };
@@ -98,6 +123,7 @@ impl Evening {
             hall: hall::Hall::default(),
             keyed: Vec::new(),
             fresh: u64::from(rng.one_in(2)),
+            parties: parties(rng, guests.len()),
             guests,
             ratings: tying_ratings(rng),
             times: times(rng),
@@ -118,6 +144,7 @@ impl Evening {
     fn call(&mut self, rng: &mut Rng) -> Call {
         let shares = match self.mood {
             Mood::Plain => [10, 3, 4, 2, 5],
+            Mood::Friends => [16, 2, 2, 1, 8],
             Mood::Crowd => [60, 2, 4, 2, 3],
             Mood::Long => [20, 12, 2, 1, 1],
         };
@@ -144,9 +171,10 @@ impl Evening {
         }
     }
 
-    /// A crowd stays one: greedy and beam rounds would seat it.
+    /// A crowd stays one, and friends go on waiting: greedy and beam rounds would seat them.
     fn round(&self, rng: &mut Rng) -> Call {
         let shares = match self.mood {
+            Mood::Friends => [1, 0, 9],
             Mood::Crowd => [2, 1, 6],
             Mood::Plain | Mood::Long => [2, 1, 1],
         };
@@ -178,7 +206,7 @@ impl Evening {
                 false => self.joined(rng),
             },
             rating: rating(rng, self.ratings),
-            party: party(rng),
+            party: party(rng, &self.parties),
             role: role(rng),
         }
     }
@@ -301,8 +329,13 @@ const CHOICES: usize = 400;
 
 fn full(rng: &mut Rng, queue: &Queue, sizes: &mut TeamComposition) -> Search {
     let within = sizes.a <= TEAM_LIMIT && sizes.b <= TEAM_LIMIT;
-    if queue.len <= LISTED_LIMIT && within && ways(queue.len, sizes.a + sizes.b) > CHOICES {
+    let listed = queue.len <= LISTED_LIMIT && within;
+    if listed && ways(queue.len, sizes.a + sizes.b) > CHOICES {
         *sizes = some_seats(rng, queue.len, CHOICES);
+    }
+    let waiting_friends = rng.one_in(2);
+    if listed && waiting_friends && !rng.one_in(4) {
+        part(rng, queue.waiting(), sizes);
     }
     let mut choice = choice_among(rng, Scale::Full, *queue, *sizes);
     let refused = [OVER_LIMIT, BAD_ROSTER].contains(&model::best_choice(&choice));
@@ -312,10 +345,46 @@ fn full(rng: &mut Rng, queue: &Queue, sizes: &mut TeamComposition) -> Search {
     if rng.one_in(2) {
         choice.constraints.brought = latency(false);
     }
-    Search::Full {
-        constraints: choice.constraints,
+    if rng.one_in(3) {
+        agree(&mut choice.rows, queue.waiting());
+    }
+    Search::Full(FullRound {
+        rules: RoundRules {
+            constraints: choice.constraints,
+            waiting_friends,
+        },
         objectives: choice.objectives,
         rows: choice.rows,
+    })
+}
+
+/// Seats such that some choices part friends and others do not, if such are drawn in a few times.
+fn part(rng: &mut Rng, waiting: &[QueueEntry], sizes: &mut TeamComposition) {
+    let most = waiting.len().clamp(1, 2 * TEAM_LIMIT);
+    for _ in 0..8 {
+        let kept = kept(waiting, sizes);
+        if kept.contains(&true) && kept.contains(&false) {
+            return;
+        }
+        *sizes = seats_of(rng, 1..=most, waiting.len(), CHOICES);
+    }
+}
+
+/// Of each choice: are friends who wait kept together?
+fn kept(waiting: &[QueueEntry], sizes: &TeamComposition) -> Vec<bool> {
+    let each = choices(waiting.len(), sizes.a + sizes.b).into_iter();
+    each.map(|places| {
+        let seated: Vec<u64> = places.iter().map(|&at| waiting[at].player).collect();
+        friends_seated(waiting, &seated)
+    })
+    .collect()
+}
+
+/// The roster has the parties that guests wait with: a choice may then meet both kinds of parties.
+fn agree(rows: &mut Rows, waiting: &[QueueEntry]) {
+    for (party, id) in rows.parties.iter_mut().flatten().zip(&rows.ids) {
+        let entry = waiting.iter().find(|entry| entry.player == *id);
+        *party = entry.map_or(*party, |entry| entry.party);
     }
 }
 
@@ -328,6 +397,9 @@ pub fn single(rng: &mut Rng) -> (Hall, Call) {
     }
     let len = waiting.waiting().len();
     tie(rng, &mut waiting.entries[..len]);
+    if len > 1 && !rng.one_in(3) {
+        befriend(rng, &mut waiting.entries[..len]);
+    }
     let mut hall = noting(rng, &waiting);
     let call = match rng.below(5) {
         0 => Call::Book {
@@ -338,7 +410,7 @@ pub fn single(rng: &mut Rng) -> (Hall, Call) {
             key: key(rng, &hall),
             player: player(rng, &waiting),
         },
-        _ => Call::Round(Box::new(round(rng, &waiting, [2, 1, 1]))),
+        _ => Call::Round(Box::new(round(rng, &waiting, [2, 1, 2]))),
     };
     let call = if rng.one_in(3) {
         again(rng, &hall, call)
@@ -349,6 +421,21 @@ pub fn single(rng: &mut Rng) -> (Hall, Call) {
         misnote(rng, &mut hall, &call);
     }
     (hall, call)
+}
+
+/// Parties as lists have them. In half of the halls everyone waits once, but for one guest: with two parties, if both are drawn.
+fn befriend(rng: &mut Rng, waiting: &mut [QueueEntry]) {
+    let parties = parties(rng, waiting.len());
+    for entry in &mut *waiting {
+        entry.party = party(rng, &parties);
+    }
+    if rng.one_in(2) {
+        for (player, entry) in (1..).zip(&mut *waiting) {
+            entry.player = player;
+        }
+        let (one, other) = (rng.below(waiting.len()), rng.below(waiting.len()));
+        waiting[other].player = waiting[one].player;
+    }
 }
 
 /// The queue's guests wait. All 1,024 places for keys are filled, each with its own key and an answer that its kind can get.
@@ -458,6 +545,18 @@ mod tests {
     }
 
     #[test]
+    fn half_of_the_full_rounds_bring_waiting_friends() {
+        let lists = (0..32).flat_map(|number| {
+            let mut rng = Rng::for_case(1, "hall", number);
+            list(&mut rng, number)
+        });
+        let full = lists.filter_map(|call| Some(call.full_round()?.1.rules));
+        let brought: Vec<bool> = full.map(|rules| rules.waiting_friends).collect();
+        let share = brought.iter().filter(|brought| **brought).count() * 100 / brought.len();
+        assert!((40..60).contains(&share), "{share}% of {}", brought.len());
+    }
+
+    #[test]
     fn single_halls_of_every_sort() {
         let mut rng = Rng::new(1);
         let drawn: Vec<(Hall, Call)> = (0..1000).map(|_| single(&mut rng)).collect();
@@ -472,6 +571,8 @@ mod tests {
             model::doubled(&ids)
         };
         assert!(seen(doubled) > 200);
+        let twofold = |hall: &Hall| model::of_two_parties(hall.queue().waiting());
+        assert!(seen(twofold) > 100);
         let falls = |hall: &Hall| !model::never_falls(hall.queue().waiting());
         assert!((200..700).contains(&seen(falls)));
         let noted = |wanted: fn(&Note) -> bool| {

@@ -5,6 +5,7 @@ use super::{LONG, Scale, WILD, clock, match_objective, queue};
 use crate::data::{Columns, Sheets};
 use crate::model::{Beam, LISTED_LIMIT, QUEUE_LIMIT, SHEET_LEAST, TEAM_LIMIT, WIDTH_LIMIT, ways};
 use crate::rng::Rng;
+use std::ops::RangeInclusive;
 use yilgashe_sys::{Queue, QueueEntry, TeamComposition};
 
 /// A queue as any other, or of players who wait but once, save for a few copies.
@@ -201,8 +202,17 @@ pub(super) fn choosable(
 
 /// Few seats or many, with at most `most` ways to take them.
 pub(super) fn some_seats(rng: &mut Rng, n: usize, most: usize) -> TeamComposition {
-    let all = 0..=2 * TEAM_LIMIT;
-    let seats: Vec<usize> = all.filter(|&seats| ways(n, seats) <= most).collect();
+    seats_of(rng, 0..=2 * TEAM_LIMIT, n, most)
+}
+
+/// One of these numbers of seats, of those with at most `most` ways to take them; there has to be one.
+pub(super) fn seats_of(
+    rng: &mut Rng,
+    numbers: RangeInclusive<usize>,
+    n: usize,
+    most: usize,
+) -> TeamComposition {
+    let seats: Vec<usize> = numbers.filter(|&seats| ways(n, seats) <= most).collect();
     let seats = rng.pick(&seats);
     let a = rng.between(seats.saturating_sub(TEAM_LIMIT), seats.min(TEAM_LIMIT));
     TeamComposition { a, b: seats - a }

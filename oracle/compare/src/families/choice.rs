@@ -46,7 +46,8 @@ impl Function for BestChoice {
         (None, 0)
     }
 
-    /// Of the policy the constraints alone are asked. The clock is not read.
+    /// Of the policy the constraints alone are asked. It knows no waiting friends: where a test brings them, the model keeps them
+    /// together. The clock is not read.
     fn rust(choice: &Choice) -> Best {
         let world = to_ruled_world(&choice.rows);
         let mut matches = ExhaustiveGenerator.generate_candidates(
@@ -58,7 +59,11 @@ impl Function for BestChoice {
         );
         let tried = matches.len() as u64;
         let policy = to_policy(&choice.constraints, &choice.objectives);
-        matches.retain(|proposed| policy.satisfies_constraints(proposed, &world));
+        matches.retain(|proposed| {
+            let seated = [&proposed.team_a[..], &proposed.team_b].concat();
+            policy.satisfies_constraints(proposed, &world)
+                && choice.keeps_friends(&from_players(&seated))
+        });
         let objectives = to_objectives(&choice.objectives);
         let best = GreedySelection { objectives }.select(matches, &world);
         let teams = |best: &ProposedMatch| {
@@ -159,6 +164,7 @@ mod tests {
                     count: 17,
                 },
             },
+            waiting_friends: false,
             objectives: SoftObjectives {
                 kinds: [2; 8],
                 weights: [1.0; 8],
@@ -196,12 +202,14 @@ mod tests {
         assert_eq!(rust(sized), (None, 3));
     }
 
-    /// The Rust panics just where two or more pass and one of them scores NaN; elsewhere it finds the model's best.
+    /// The Rust panics just where two or more pass and one of them scores NaN; elsewhere it finds the model's best. Every other case
+    /// brings waiting friends, as a full round of the hall may.
     #[test]
     fn the_model_weighs_as_the_rust_does() {
         for scale in [Scale::Full, Scale::Stored] {
-            for number in 0..1500 {
-                let case = BestChoice::draw(&mut Rng::for_case(1, "weighed", number), scale);
+            for number in 0..3000 {
+                let mut case = BestChoice::draw(&mut Rng::for_case(1, "weighed", number), scale);
+                case.waiting_friends = number % 2 == 1;
                 let refusal = BestChoice::refusal(&case);
                 if [0, 5].contains(&refusal) {
                     let rust = caught(|| BestChoice::rust(&case));

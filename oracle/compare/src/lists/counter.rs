@@ -1,6 +1,6 @@
 //! Who serves calls: the library, or the model.
 
-use crate::data::{Answer, Call, Round, Search};
+use crate::data::{Answer, Call, FullRound, Round, Search};
 use crate::model::OVER_LIMIT;
 use crate::model::hall::{self, Kind, Note, over_limit};
 use yilgashe_sys::{self as library, BeamSearch, Booking, Hall, Keyed, Rounded};
@@ -92,14 +92,14 @@ fn rounded(hall: Hall, round: &Round, players: &mut [u64], qualities: &mut [f64]
             players,
             qualities,
         ),
-        Search::Full {
-            constraints,
+        Search::Full(FullRound {
+            rules,
             objectives,
             rows,
-        } => library::hall_full_round(
+        }) => library::hall_full_round(
             hall,
             sizes,
-            *constraints,
+            *rules,
             *objectives,
             clock,
             &rows.ids,

@@ -1,6 +1,7 @@
 //! Counts of calls and answers, and their lines in the report.
 
 use super::beside::Beside;
+use super::friends::Friends;
 use crate::data::{Answer, Call};
 use std::array::from_fn;
 
@@ -49,6 +50,29 @@ impl Held {
     }
 }
 
+/// Full rounds that bring waiting friends and were not refused.
+#[derive(Clone, Copy, Debug, Default)]
+pub struct Befriended {
+    pub brought: usize,
+    /// Of these, how many answer otherwise than the same round without them.
+    pub parted: usize,
+    /// How many bring the roster's parties too.
+    pub both: usize,
+    /// In how many somebody waits twice, with two parties.
+    pub twofold: usize,
+}
+
+impl Befriended {
+    pub(super) fn count(&mut self, friends: Option<Friends>) {
+        if let Some(friends) = friends {
+            self.brought += 1;
+            self.parted += usize::from(friends.parted);
+            self.both += usize::from(friends.both);
+            self.twofold += usize::from(friends.twofold);
+        }
+    }
+}
+
 #[derive(Default)]
 pub struct Counts {
     pub lists: u64,
@@ -59,6 +83,9 @@ pub struct Counts {
     /// Greedy rounds of lists, and single ones.
     pub held: Held,
     pub held_single: Held,
+    /// Full rounds of lists, and single ones.
+    pub befriended: Befriended,
+    pub befriended_single: Befriended,
     rows: [Row; ROWS.len()],
 }
 
@@ -97,7 +124,7 @@ impl Counts {
         }
     }
 
-    /// A line for each row, one for all calls of lists, and what greedy rounds were held to.
+    /// A line for each row, one for all calls of lists, what greedy rounds were held to, and full rounds with waiting friends.
     pub fn lines(&self) -> String {
         let heading = format!(
             "{:24} {:>9} {:>11} {:>9}  refused",
@@ -115,9 +142,10 @@ impl Counts {
             self.differences
         );
         format!(
-            "{heading}\n{}\n{lists}\n{}",
+            "{heading}\n{}\n{lists}\n{}\n{}",
             lines.join("\n"),
-            self.held_lines()
+            self.held_lines(),
+            self.befriended_lines()
         )
     }
 
@@ -136,6 +164,25 @@ impl Counts {
         };
         let lists = line("hall all of lists", self.held);
         let single = line("hall single calls", self.held_single);
+        format!("{heading}\n{lists}\n{single}")
+    }
+
+    fn befriended_lines(&self) -> String {
+        let heading = format!(
+            "{:24} {:>9} {:>10} {:>11} {:>12}",
+            "hall waiting friends", "brought", "otherwise", "both kinds", "two parties"
+        );
+        let line = |name: &str, befriended: Befriended| {
+            let Befriended {
+                brought,
+                parted,
+                both,
+                twofold,
+            } = befriended;
+            format!("{name:24} {brought:>9} {parted:>10} {both:>11} {twofold:>12}")
+        };
+        let lists = line("hall all of lists", self.befriended);
+        let single = line("hall single calls", self.befriended_single);
         format!("{heading}\n{lists}\n{single}")
     }
 }

@@ -163,21 +163,10 @@ fn best_of_all(
     seated: &[u64],
     before: &Hall,
 ) -> Result<(), &'static str> {
-    let Search::Full {
-        constraints,
-        objectives,
-        rows,
-    } = &round.search
-    else {
+    let Search::Full(full) = &round.search else {
         return Ok(());
     };
-    let choice = Choice {
-        queue: before.queue(),
-        sizes: round.sizes,
-        constraints: *constraints,
-        objectives: *objectives,
-        rows: rows.clone(),
-    };
+    let choice = Choice::of(before.queue(), round.sizes, full);
     let weighed = choice.listed().into_iter().zip(choice.weighed());
     let passing = weighed.filter(|(_, (passes, _))| *passes);
     let passing: Vec<(ProposedMatch, f64)> = passing.map(|(m, (_, score))| (m, score)).collect();

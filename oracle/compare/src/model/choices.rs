@@ -5,10 +5,10 @@ use super::{
     BAD_ROSTER, CLOCK, LISTED_LIMIT, NO_RECORD, OVER_LIMIT, TEAM_LIMIT, TOO_WIDE, UNRANKED, first,
     joined_late, large, over, unranked,
 };
-use crate::data::Rows;
+use crate::data::{FullRound, Rows};
 use yilgashe_sys::{
-    Constraints, ProposedMatch, Queue, RegionConstraint, RoleRequirement, SoftObjectives, Team,
-    TeamComposition,
+    Constraints, ProposedMatch, Queue, QueueEntry, RegionConstraint, RoleRequirement,
+    SoftObjectives, Team, TeamComposition,
 };
 
 /// What a full round's choice brings.
@@ -17,6 +17,8 @@ pub struct Choice {
     pub queue: Queue,
     pub sizes: TeamComposition,
     pub constraints: Constraints,
+    /// Only a full round of the hall can bring them.
+    pub waiting_friends: bool,
     pub objectives: SoftObjectives,
     pub rows: Rows,
 }
@@ -41,9 +43,43 @@ pub fn best_choice(choice: &Choice) -> u8 {
     }
 }
 
+/// Request 2.3: is each guest seated who waits with the party of somebody seated? Whoever waits twice has both parties; 0 is none.
+pub fn friends_seated(waiting: &[QueueEntry], seated: &[u64]) -> bool {
+    let sits = |entry: &QueueEntry| seated.contains(&entry.player);
+    let at_table = waiting.iter().filter(|entry| sits(entry));
+    let parties: Vec<u64> = at_table.map(|entry| entry.party).collect();
+    let mut friends = waiting
+        .iter()
+        .filter(|entry| entry.party != 0 && parties.contains(&entry.party));
+    friends.all(sits)
+}
+
+/// Does somebody wait twice, with two parties other than 0?
+pub fn of_two_parties(waiting: &[QueueEntry]) -> bool {
+    let in_party = || waiting.iter().filter(|entry| entry.party != 0);
+    in_party().any(|one| {
+        let mut own = in_party().filter(|other| other.player == one.player);
+        own.any(|other| other.party != one.party)
+    })
+}
+
+impl Choice {
+    /// Of a full round of the hall, where those of `queue` wait.
+    pub fn of(queue: Queue, sizes: TeamComposition, full: &FullRound) -> Self {
+        Choice {
+            queue,
+            sizes,
+            constraints: full.rules.constraints,
+            waiting_friends: full.rules.waiting_friends,
+            objectives: full.objectives,
+            rows: full.rows.clone(),
+        }
+    }
+}
+
 /// For input within the limits.
 impl Choice {
-    /// Of every choice: does it pass each constraint that is brought, and what does it score?
+    /// Of every choice: does it pass all that is brought, and what does it score?
     pub fn weighed(&self) -> Vec<(bool, f64)> {
         let each = self.listed().into_iter().map(|teams| {
             let score = weighted_sum(&self.objectives, &teams, &self.rows);
@@ -109,6 +145,12 @@ impl Choice {
             && (!brought.parties || self.whole(&seated))
             && (!brought.latency || self.above_zero(&seated))
             && (!brought.regions || allowed())
+            && self.keeps_friends(&seated)
+    }
+
+    /// Are waiting friends not brought, or seated with each of these?
+    pub fn keeps_friends(&self, seated: &[u64]) -> bool {
+        !self.waiting_friends || friends_seated(self.queue.waiting(), seated)
     }
 
     fn row(&self, player: u64) -> Option<usize> {
@@ -155,7 +197,7 @@ impl Choice {
 }
 
 /// Every choice of `seats` of `n` places, in ascending order.
-fn choices(n: usize, seats: usize) -> Vec<Vec<usize>> {
+pub fn choices(n: usize, seats: usize) -> Vec<Vec<usize>> {
     let mut grown: Vec<Vec<usize>> = vec![Vec::new()];
     for seat in 0..seats {
         // So many places have to stay free behind the next one.
@@ -174,7 +216,7 @@ fn choices(n: usize, seats: usize) -> Vec<Vec<usize>> {
 mod tests {
     use super::super::{CLOCK_LIMIT, ways};
     use super::*;
-    use yilgashe_sys::{Brought, QueueEntry, RegionPair, RoleRequirements, TeamSizeConstraint};
+    use yilgashe_sys::{Brought, RegionPair, RoleRequirements, TeamSizeConstraint};
 
     /// Guests from 1 to n, all rostered alike; no constraint is brought, and wait alone counts.
     fn choice(n: u64, a: usize, b: usize) -> Choice {
@@ -212,6 +254,7 @@ mod tests {
                     count: 1,
                 },
             },
+            waiting_friends: false,
             objectives: SoftObjectives {
                 kinds: [2; 8],
                 weights: [1.0; 8],
@@ -313,5 +356,69 @@ mod tests {
         assert_eq!(passing(&three), [false, false, true]);
         three.constraints.sizes.b = 0;
         assert_eq!(passing(&three), [false, false, false]);
+    }
+
+    /// Guests who wait, each with his party.
+    fn waiting(entries: &[(u64, u64)]) -> Vec<QueueEntry> {
+        let entry = |&(player, party)| QueueEntry {
+            player,
+            party,
+            ..QueueEntry::default()
+        };
+        entries.iter().map(entry).collect()
+    }
+
+    #[test]
+    fn friends_are_seated_together_or_not_at_all() {
+        let pair = waiting(&[(1, 7), (2, 0), (3, 7), (4, 0), (5, 8)]);
+        let kept: [&[u64]; 7] = [&[], &[2], &[2, 4], &[5], &[1, 3], &[3, 5, 1], &[9]];
+        assert!(kept.iter().all(|seated| friends_seated(&pair, seated)));
+        let parted: [&[u64]; 4] = [&[1], &[3], &[2, 3], &[1, 2, 4, 5]];
+        assert!(!parted.iter().any(|seated| friends_seated(&pair, seated)));
+    }
+
+    /// Guest 2 is a friend of both others, who are none of each other.
+    #[test]
+    fn each_entry_of_a_guest_makes_friends() {
+        let doubled = waiting(&[(1, 7), (2, 7), (3, 8), (2, 8), (4, 0), (4, 9)]);
+        let parted: [&[u64]; 5] = [&[1], &[2], &[1, 2], &[2, 3], &[1, 3]];
+        assert!(!parted.iter().any(|seated| friends_seated(&doubled, seated)));
+        assert!(friends_seated(&doubled, &[1, 2, 3]));
+        assert!(friends_seated(&doubled, &[4]));
+        assert!(of_two_parties(&doubled));
+        assert!(!of_two_parties(&doubled[..3]));
+        assert!(!of_two_parties(&doubled[2..]));
+    }
+
+    #[test]
+    fn waiting_friends_bar_choices_where_they_are_brought() {
+        let mut three = choice(3, 1, 1);
+        three.queue.entries[0].party = 7;
+        three.queue.entries[2].party = 7;
+        // One who does not wait bars nothing.
+        three.queue.entries[3] = QueueEntry {
+            player: 9,
+            ..three.queue.entries[0]
+        };
+        three.rows.parties = Some(vec![5, 5, 0]);
+        assert_eq!(passing(&three), [true, true, true]);
+        three.waiting_friends = true;
+        assert_eq!(passing(&three), [false, true, false]);
+        three.constraints.brought.parties = true;
+        assert_eq!(passing(&three), [false, false, false]);
+        three.waiting_friends = false;
+        assert_eq!(passing(&three), [true, false, false]);
+    }
+
+    /// One that passes alone is not ranked.
+    #[test]
+    fn friends_leave_one_choice_that_scores_nan() {
+        let mut nan = choice(3, 1, 1);
+        nan.objectives.weights[0] = f64::NAN;
+        nan.queue.entries[0].party = 7;
+        nan.queue.entries[2].party = 7;
+        assert_eq!(best_choice(&nan), 5);
+        nan.waiting_friends = true;
+        assert_eq!(best_choice(&nan), 0);
     }
 }

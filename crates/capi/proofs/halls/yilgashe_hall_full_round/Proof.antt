@@ -22,7 +22,7 @@ returns : tie.Need-returns
 returns c =
     let a = c .before .before .before .before .before .before .before .before .before .args in
     let r = ofRules (a .ids .now) (a .ratings .now) (a .parties .now) (a .roles .now) (a .regions .now) in
-    no-kind-told (hallOf (a .hall)) (a .sizes) (a .constraints) (a .objectives) (a .clock) r (a .players .now) (a .qualities .now) (a .hall) refl (sym (c .before .has-no-kind .ensures) ∙ c .if1 .taken)
+    no-kind-told (hallOf (a .hall)) (a .sizes) (a .rules) (a .objectives) (a .clock) r (a .players .now) (a .qualities .now) (a .hall) refl (sym (c .before .has-no-kind .ensures) ∙ c .if1 .taken)
 
 is-over-requires : tie.Need-is-over-requires
 is-over-requires c κs = search needs
@@ -31,8 +31,8 @@ returns-2 : tie.Need-returns-2
 returns-2 c =
     let a = c .before .before .before .before .before .before .before .before .before .before .before .args in
     let r = ofRules (a .ids .now) (a .ratings .now) (a .parties .now) (a .roles .now) (a .regions .now) in
-    let call = fullCall (a .sizes) (a .constraints) (a .objectives) (a .clock) r (sheets (a .players .now) (a .qualities .now)) in
-    kinds-told (hallOf (a .hall)) (a .sizes) (a .constraints) (a .objectives) (a .clock) r (a .players .now) (a .qualities .now) (sym (c .before .before .before .has-no-kind .ensures) ∙ c .before .before .if1 .left) (over-told (a .hall) call (c .before .is-over .ensures) (c .if2 .taken))
+    let call = fullCall (a .sizes) (a .rules) (a .objectives) (a .clock) r (sheets (a .players .now) (a .qualities .now)) in
+    kinds-told (hallOf (a .hall)) (a .sizes) (a .rules) (a .objectives) (a .clock) r (a .players .now) (a .qualities .now) (sym (c .before .before .before .has-no-kind .ensures) ∙ c .before .before .if1 .left) (over-told (a .hall) call (c .before .is-over .ensures) (c .if2 .taken))
 
 constraints-of-requires : tie.Need-constraints-of-requires
 constraints-of-requires c κs = search needs
@@ -56,9 +56,9 @@ returns-3 : tie.Need-returns-3
 returns-3 c =
     let a = c .before .before .before .before .before .before .before .before .before .before .before .before .before .before .before .before .before .before .before .before .before .before .before .before .args in
     let r = ofRules (a .ids .now) (a .ratings .now) (a .parties .now) (a .roles .now) (a .regions .now) in
-    let call = fullCall (a .sizes) (a .constraints) (a .objectives) (a .clock) r (sheets (a .players .now) (a .qualities .now)) in
-    let found = terms-told (hallOf (a .hall)) (a .sizes) (a .constraints) (a .objectives) (a .clock) r (a .players .now) (a .qualities .now) (take (a .hall .waiting) (a .hall .bookings)) (c .before .before .before .before .before .before .before .before .before .before .before .constraints-of .ensures) (c .before .before .before .before .before .before .before .before .before .before .objectives .ensures) (c .before .before .before .before .before .before .before .full-handed .ensures) in
-    kinds-told (hallOf (a .hall)) (a .sizes) (a .constraints) (a .objectives) (a .clock) r (a .players .now) (a .qualities .now) (sym (c .before .before .before .before .before .before .before .before .before .before .before .before .before .before .before .before .has-no-kind .ensures) ∙ c .before .before .before .before .before .before .before .before .before .before .before .before .before .before .before .if1 .left) (round-told (a .hall) call (c .before .before .before .before .before .before .before .before .before .before .before .before .before .before .is-over .ensures) (c .before .before .before .before .before .before .before .before .before .before .before .before .before .if2 .left) (places (c .before .before .before .before .before .before .before .before .before .before .before .before .before .before .before .before .before .before .before .before .before .before .before .before)) (c .before .before .before .before .before .before .before .full-handed .result) found _ (c .before .without-seated .ensures) refl)
+    let call = fullCall (a .sizes) (a .rules) (a .objectives) (a .clock) r (sheets (a .players .now) (a .qualities .now)) in
+    let found = terms-told (hallOf (a .hall)) (a .sizes) (a .rules) (a .objectives) (a .clock) r (a .players .now) (a .qualities .now) (take (a .hall .waiting) (a .hall .bookings)) (c .before .before .before .before .before .before .before .before .before .before .before .constraints-of .ensures) (c .before .before .before .before .before .before .before .before .before .before .objectives .ensures) (c .before .before .before .before .before .before .before .full-handed .ensures) in
+    kinds-told (hallOf (a .hall)) (a .sizes) (a .rules) (a .objectives) (a .clock) r (a .players .now) (a .qualities .now) (sym (c .before .before .before .before .before .before .before .before .before .before .before .before .before .before .before .before .has-no-kind .ensures) ∙ c .before .before .before .before .before .before .before .before .before .before .before .before .before .before .before .if1 .left) (round-told (a .hall) call (c .before .before .before .before .before .before .before .before .before .before .before .before .before .before .is-over .ensures) (c .before .before .before .before .before .before .before .before .before .before .before .before .before .if2 .left) (places (c .before .before .before .before .before .before .before .before .before .before .before .before .before .before .before .before .before .before .before .before .before .before .before .before)) (c .before .before .before .before .before .before .before .full-handed .result) found _ (c .before .without-seated .ensures) refl)
 
 pub yilgashe-hall-full-round-spec : {M : Type 1} → statement M
 yilgashe-hall-full-round-spec =

@@ -33,7 +33,7 @@ returns c =
     let bs = a .bookings in
     let long = places (c .before .before .before .before .before .before .before .before .before .before .before .before .before) in
     let sheets : Sheets = record { players = a .players .now; qualities = a .qualities .now } in
-    full-refused (a .sizes) (a .constraints) (a .objectives) (a .count) r (a .clock) sheets (take (a .n) bs) (at-most bs (a .n) long) _ (c .before .before .before .before .before .check-sheets-and-clock .ensures) _ (c .before .before .before .checked .given .1) (c .before .first-refusal .result) (c .before .first-refusal .ensures) (c .refuses .ensures)
+    full-refused (a .sizes) (a .constraints) (a .friends) (a .objectives) (a .count) r (a .clock) sheets (take (a .n) bs) (at-most bs (a .n) long) _ (c .before .before .before .before .before .check-sheets-and-clock .ensures) _ (c .before .before .before .checked .given .1) (c .before .first-refusal .result) (c .before .first-refusal .ensures) (c .refuses .ensures)
 
 enum-told : tie.Need-enum-told
 enum-told c = search needs
@@ -62,7 +62,7 @@ returns-2 c =
     let bs = a .bookings in
     let long = places (c .before .before .before .before .before .before .before .before .before .before .before .before .before .before .before .before .before .before .before) in
     let sheets : Sheets = record { players = a .players .now; qualities = a .qualities .now } in
-    full-given (a .sizes) (a .constraints) (a .objectives) (a .count) r (a .clock) sheets (take (a .n) bs) (at-most bs (a .n) long) _ (c .before .before .before .before .before .before .before .before .before .before .before .check-sheets-and-clock .ensures) (c .before .before .before .before .before .before .before .before .before .enum-told .given .1) (c .before .before .before .before .before .before .before .before .eligible .ensures) (c .before .before .before .before .before .before .before .best-choice .ensures .outcome) (c .before .before .before .before .choice-handed .ensures)
+    full-given (a .sizes) (a .constraints) (a .friends) (a .objectives) (a .count) r (a .clock) sheets (take (a .n) bs) (at-most bs (a .n) long) _ (c .before .before .before .before .before .before .before .before .before .before .before .check-sheets-and-clock .ensures) (c .before .before .before .before .before .before .before .before .before .enum-told .given .1) (c .before .before .before .before .before .before .before .before .eligible .ensures) (c .before .before .before .before .before .before .before .best-choice .ensures .outcome) (c .before .before .before .before .choice-handed .ensures)
 
 pub full-handed-spec : {M : Type 1} → statement M
 full-handed-spec =

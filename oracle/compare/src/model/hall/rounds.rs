@@ -7,8 +7,8 @@ use super::super::{
     ways,
 };
 use super::Hall;
-use crate::data::{Answer, Columns, Round, Rows, Search};
-use yilgashe_sys::{Constraints, MatchObjective, ProposedMatch, Queue, SoftObjectives};
+use crate::data::{Answer, Columns, FullRound, Round, Search};
+use yilgashe_sys::{MatchObjective, ProposedMatch, Queue};
 
 /// The matches with their qualities, and how many choices were tried.
 struct Formed {
@@ -47,11 +47,7 @@ impl Hall {
                 objective,
                 columns,
             } => self.beam(round, *width, objective, columns),
-            Search::Full {
-                constraints,
-                objectives,
-                rows,
-            } => self.full(round, constraints, objectives, rows),
+            Search::Full(full) => self.full(round, full),
         }
     }
 
@@ -95,14 +91,9 @@ impl Hall {
         Ok(searched(matches, columns))
     }
 
-    fn full(
-        &self,
-        round: &Round,
-        constraints: &Constraints,
-        objectives: &SoftObjectives,
-        rows: &Rows,
-    ) -> Result<Formed, u8> {
-        let over = over_limit(constraints) || unlisted(objectives) || rules::long(rows);
+    fn full(&self, round: &Round, full: &FullRound) -> Result<Formed, u8> {
+        let (constraints, rows) = (&full.rules.constraints, &full.rows);
+        let over = over_limit(constraints) || unlisted(&full.objectives) || rules::long(rows);
         check(&[
             (over, OVER_LIMIT),
             (rules::bad(rows) || bad_pairs(constraints), BAD_ROSTER),
@@ -110,13 +101,7 @@ impl Hall {
             (self.late(round), CLOCK),
             (self.waiting.len() > LISTED_LIMIT, TOO_WIDE),
         ])?;
-        let choice = Choice {
-            queue: Queue::of(&self.waiting),
-            sizes: round.sizes,
-            constraints: *constraints,
-            objectives: *objectives,
-            rows: rows.clone(),
-        };
+        let choice = Choice::of(Queue::of(&self.waiting), round.sizes, full);
         let best = choice.best().ok_or(UNRANKED)?;
         let teams = |m: ProposedMatch| (m.a.seated().to_vec(), m.b.seated().to_vec());
         Ok(Formed {
@@ -151,10 +136,10 @@ fn searched(matches: Vec<Teams>, columns: &Columns) -> Formed {
 mod tests {
     use super::super::super::CLOCK_LIMIT;
     use super::*;
-    use crate::data::Sheets;
+    use crate::data::{Rows, Sheets};
     use yilgashe_sys::{
-        Brought, QueueEntry, RegionConstraint, RegionPair, RoleRequirement, RoleRequirements,
-        TeamComposition, TeamSizeConstraint,
+        Brought, Constraints, QueueEntry, RegionConstraint, RegionPair, RoleRequirement,
+        RoleRequirements, RoundRules, SoftObjectives, TeamComposition, TeamSizeConstraint,
     };
 
     const TABLE: [f64; 4] = [1000.0, 1280.0, 1010.0, 1090.0];
@@ -211,24 +196,28 @@ mod tests {
             first: 9,
             second: 9,
         };
-        Search::Full {
-            constraints: Constraints {
-                brought: Brought {
-                    sizes: false,
-                    roles: false,
-                    parties: false,
-                    latency: false,
-                    regions: false,
-                },
-                sizes: TeamSizeConstraint { a: 9, b: 9 },
-                roles: RoleRequirements {
-                    of: [nobody; 8],
-                    len: 9,
-                },
-                regions: RegionConstraint {
-                    pairs: [unknown; 16],
-                    count: 17,
-                },
+        let constraints = Constraints {
+            brought: Brought {
+                sizes: false,
+                roles: false,
+                parties: false,
+                latency: false,
+                regions: false,
+            },
+            sizes: TeamSizeConstraint { a: 9, b: 9 },
+            roles: RoleRequirements {
+                of: [nobody; 8],
+                len: 9,
+            },
+            regions: RegionConstraint {
+                pairs: [unknown; 16],
+                count: 17,
+            },
+        };
+        Search::Full(FullRound {
+            rules: RoundRules {
+                constraints,
+                waiting_friends: false,
             },
             objectives: SoftObjectives {
                 kinds: [2; 8],
@@ -242,7 +231,7 @@ mod tests {
                 roles: Some(vec![0]),
                 regions: Some(vec![4]),
             },
-        }
+        })
     }
 
     fn round(search: Search, a: usize, b: usize) -> Round {
@@ -306,6 +295,30 @@ mod tests {
         assert_eq!(hall(&TABLE).round(&empty).tried, 1);
     }
 
+    /// Guests 1 and 3 wait as friends, and the last of equal best would part them.
+    #[test]
+    fn a_full_round_keeps_waiting_friends() {
+        let mut friends = hall(&TABLE[..3]);
+        friends.waiting[0].party = 7;
+        friends.waiting[2].party = 7;
+        let mut pair = round(full(1.0), 1, 1);
+        expect(&mut friends.clone(), &pair, &[2, 3], &[0.0], &[1]);
+        if let Search::Full(full) = &mut pair.search {
+            full.rules.waiting_friends = true;
+        }
+        assert_eq!(friends.clone().round(&pair).tried, 3);
+        expect(&mut friends, &pair, &[1, 3], &[0.0], &[2]);
+        // The seats part them, whoever takes them.
+        friends.waiting[0].party = 7;
+        friends.waiting.push(QueueEntry {
+            player: 4,
+            ..friends.waiting[0]
+        });
+        pair.sizes.b = 0;
+        expect(&mut friends, &pair, &[], &[], &[2, 4]);
+        assert_eq!(friends.round(&pair).tried, 2);
+    }
+
     #[test]
     fn every_entry_of_the_seated_leaves() {
         let mut doubled = hall(&TABLE);
@@ -337,7 +350,7 @@ mod tests {
             round.sheets.qualities.push(0.0);
             assert_eq!(hall.round(&round).refusal, 4);
             round.clock = CLOCK_LIMIT;
-            if let Search::Full { .. } = round.search {
+            if let Search::Full(_) = round.search {
                 assert_eq!(hall.round(&round).refusal, 6);
                 hall.waiting.pop();
                 assert_eq!(hall.round(&round).refusal, 5);
@@ -365,7 +378,7 @@ mod tests {
     fn spoil(search: &mut Search, id: u64) {
         let ids = match search {
             Search::Greedy(columns) | Search::Beam { columns, .. } => &mut columns.ids,
-            Search::Full { rows, .. } => {
+            Search::Full(FullRound { rows, .. }) => {
                 rows.ratings = Some(vec![0.0; 2]);
                 rows.parties = Some(vec![0; 2]);
                 rows.roles = Some(vec![0; 2]);

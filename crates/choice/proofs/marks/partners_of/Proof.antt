@@ -9,8 +9,8 @@ use lib.ListN.{length, take, length-set}
 use Rattle.base.proofs.Arrays.{fill-on, fill-end}
 use Rattle.choice.specs.Reading.{marks}
 use borrow.Author.Needs.{needs}
-use Rattle.choice.proofs.marks.friends_of.Statement.{statement}
-use Rattle.choice.proofs.marks.friends_of.Tie as tie
+use Rattle.choice.proofs.marks.partners_of.Statement.{statement}
+use Rattle.choice.proofs.marks.partners_of.Tie as tie
 
 abbrev Inv-loop : tie.InvT-loop
 Inv-loop parties n out₀ i₀ out i = (i ≤ n) × (length out ≡ 64) × (take i out ≡ map (λ p. marks (λ q. not (eqb p 0) && eqb q p) (take n parties)) (take i parties))
@@ -54,8 +54,8 @@ returns c =
     let l = c .before .loop in
     fill-end (λ p. marks (λ q. not (eqb p 0) && eqb q p) (take (s .args .n) (s .args .parties .now))) (s .args .parties .now) (l .out) (l .i) (s .args .n) (c .loop-test .left) (l .inv .0) (l .inv .2)
 
-pub friends-of-spec : {M : Type 1} → statement M
-friends-of-spec =
+pub partners-of-spec : {M : Type 1} → statement M
+partners-of-spec =
     tie.close
     (tie.spec
     Inv-loop
