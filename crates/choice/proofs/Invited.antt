@@ -1,7 +1,7 @@
 -- Waiting friends as sets of places: the places of a guest's friends, and that all who are expected with those seated are seated.
 use Prim.Native.Nat.{ℕ}
 use mathlib.Core.Path.{_≡_, refl, sym, ap, _∙_}
-use mathlib.Core.Bool.{Bool, true, false, not, _&&_, _||_}
+use mathlib.Core.Bool.{Bool, true, false, not, _&&_, _||_, and-false}
 use mathlib.Core.List.{List, [], _∷_, map}
 use borrow.Author.Tests.{eqb-true, eq-eqb}
 use lib.Dec.{eqb}
@@ -18,7 +18,7 @@ use Rattle.choice.proofs.MarkLaws.{marks-never, marks-alike, marks-or}
 -- ---- the places of a guest's friends
 
 -- the sets of all entries of a guest together
-pub pooled-marks : {A : Type 0} (f : QueueEntry → A → Bool) (xs : List A) (p : ℕ) (ds : List QueueEntry) → pooled p (playersOf ds) (map (λ d. marks (f d) xs) ds) ≡ marks (λ x. any (λ d. eqb (d .player) p && f d x) ds) xs
+pooled-marks : {A : Type 0} (f : QueueEntry → A → Bool) (xs : List A) (p : ℕ) (ds : List QueueEntry) → pooled p (playersOf ds) (map (λ d. marks (f d) xs) ds) ≡ marks (λ x. any (λ d. eqb (d .player) p && f d x) ds) xs
 unfolding pooled seek
 pooled-marks f xs p [] = sym (marks-never xs)
 pooled-marks f xs p (d ∷ ds) =
@@ -49,14 +49,10 @@ shared : (es : List QueueEntry) (p : ℕ) (e : QueueEntry) → any (λ d. eqb (d
 shared es p e =
     cases (eqb (e .party) 0)
     (λ t.
-    ap (λ (f : QueueEntry → Bool). any f es) (λ j d. (ap (λ (b : Bool). eqb (d .player) p && b) (shares-none d e t) ∙ none (eqb (d .player) p)) j)
+    ap (λ (f : QueueEntry → Bool). any f es) (λ j d. (ap (λ (b : Bool). eqb (d .player) p && b) (shares-none d e t) ∙ and-false (eqb (d .player) p)) j)
     ∙ any-never es
     ∙ rw t)
     (λ k. ap (λ (f : QueueEntry → Bool). any f es) (λ j d. eqb (d .player) p && shares-one d e k j) ∙ rw k)
-  where
-    none : (a : Bool) → (a && false) ≡ false
-    none true = refl
-    none false = refl
 
 -- the sets of those who share a party with each entry, of all entries of a guest together, are the places of the guest's friends
 pub friends-pooled : (es : List QueueEntry) (p : ℕ) → pooled p (playersOf es) (map (λ d. marks (shares d) es) es) ≡ marks (invites true es p) es
@@ -65,7 +61,7 @@ friends-pooled es p =
 
 -- ---- all who are expected
 
--- two reasons, either of which is enough to be seated
+-- who must be seated for one of two reasons must be for each
 two-reasons : (a b c : Bool) → (not (a || b) || c) ≡ ((not a || c) && (not b || c))
 two-reasons true true true = refl
 two-reasons true true false = refl

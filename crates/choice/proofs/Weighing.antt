@@ -1,7 +1,7 @@
 -- The best so far, kept over all choices, comes to the full round's choice.
 use Prim.Native.Nat.{ℕ, _+_, _≤_}
 use mathlib.Core.Path.{_≡_, refl, sym, ap, _∙_}
-use mathlib.Core.Bool.{Bool, true, false, cond, _||_}
+use mathlib.Core.Bool.{Bool, true, false, cond, _||_, or-false}
 use mathlib.Core.List.{List, [], _∷_, map, foldl}
 use mathlib.Core.Option.{none, some}
 use native.Mathlib.Nat.{zero-add}
@@ -24,11 +24,6 @@ use Rattle.candidate.specs.Walks.{through}
 use Rattle.candidate.proofs.Listings.{listing-count, through-split}
 use Rattle.choice.specs.Full.{Terms, passes, scoreIn, passing, bestAmong, chosen}
 use Rattle.choice.specs.Steps.{SoFar, unweighed, orBetter, passed, skipped, weighed, concluding}
-
--- a test or nothing is the test
-or-false : (b : Bool) → (b || false) ≡ b
-or-false true = refl
-or-false false = refl
 
 -- of two tests and a third, in one order or the other
 or-assoc : (a b c : Bool) → ((a || b) || c) ≡ (a || cond b true c)

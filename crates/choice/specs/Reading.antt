@@ -46,6 +46,7 @@ oneEach = 0x0101_0101_0101_0101
 
 -- ---- what the constraints ask of a place; a kind that is not brought asks nothing
 
+-- who waits, in the order of the entries
 abbrev pub playersOf : List QueueEntry → List ℕ
 playersOf = map (λ e. e .player)
 

@@ -1,11 +1,8 @@
 //! Corners of waiting friends, request 2.3: full rounds on small halls, which the library and the model answer alike.
 
-use compare::data::{Call, FullRound, Round, Rows, Search, Sheets};
+use compare::data::{Call, FullRound, Round, Rows, Search, Sheets, nothing_brought};
 use compare::lists::{Counter, Counts, Library, Modelled, judge_single};
-use yilgashe_sys::{
-    Booking, Brought, Constraints, Hall, RegionConstraint, RegionPair, RoleRequirement,
-    RoleRequirements, RoundRules, SoftObjectives, TeamComposition, TeamSizeConstraint,
-};
+use yilgashe_sys::{Booking, Hall, RoundRules, SoftObjectives, TeamComposition};
 
 /// What is brought of parties: those of the roster, those of the bookings, or both.
 #[derive(Clone, Copy)]
@@ -104,35 +101,10 @@ fn alike(hall: &Hall, call: &Call) {
 }
 
 fn rules(kinds: Kinds) -> RoundRules {
-    let role = RoleRequirement {
-        role: 0,
-        least: 0,
-        bounded: false,
-        most: 0,
-    };
-    let pair = RegionPair {
-        first: 0,
-        second: 0,
-    };
+    let mut constraints = nothing_brought();
+    constraints.brought.parties = matches!(kinds, Kinds::Roster | Kinds::Both);
     RoundRules {
-        constraints: Constraints {
-            brought: Brought {
-                sizes: false,
-                roles: false,
-                parties: matches!(kinds, Kinds::Roster | Kinds::Both),
-                latency: false,
-                regions: false,
-            },
-            sizes: TeamSizeConstraint { a: 0, b: 0 },
-            roles: RoleRequirements {
-                of: [role; 8],
-                len: 0,
-            },
-            regions: RegionConstraint {
-                pairs: [pair; 16],
-                count: 0,
-            },
-        },
+        constraints,
         waiting_friends: matches!(kinds, Kinds::Waiting | Kinds::Both),
     }
 }

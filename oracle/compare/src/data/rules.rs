@@ -1,6 +1,10 @@
-//! The columns that constraints, policies and selections read.
+//! The columns that constraints, policies and selections read, and constraints of which none is brought.
 
 use std::fmt::{Debug, Formatter, Result};
+use yilgashe_sys::{
+    Brought, Constraints, RegionConstraint, RegionPair, RoleRequirement, RoleRequirements,
+    TeamSizeConstraint,
+};
 
 /// No column where a call takes none; their lengths may differ.
 #[derive(Clone, Default)]
@@ -57,5 +61,37 @@ fn column<T: Debug>(f: &mut Formatter<'_>, name: &str, column: &Option<Vec<T>>) 
     match column {
         Some(column) => write!(f, "\n      {:3} {name}: {column:?}", column.len()),
         None => Ok(()),
+    }
+}
+
+/// Nothing is brought. What is stated all the same is over the limits, since nothing may read it.
+pub fn nothing_brought() -> Constraints {
+    let nobody = RoleRequirement {
+        role: 0,
+        least: 1,
+        bounded: false,
+        most: 0,
+    };
+    let unknown = RegionPair {
+        first: 9,
+        second: 9,
+    };
+    Constraints {
+        brought: Brought {
+            sizes: false,
+            roles: false,
+            parties: false,
+            latency: false,
+            regions: false,
+        },
+        sizes: TeamSizeConstraint { a: 9, b: 9 },
+        roles: RoleRequirements {
+            of: [nobody; 8],
+            len: 9,
+        },
+        regions: RegionConstraint {
+            pairs: [unknown; 16],
+            count: 17,
+        },
     }
 }

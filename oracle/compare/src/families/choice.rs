@@ -119,12 +119,9 @@ impl Stored for BestChoice {
 #[cfg(test)]
 mod tests {
     use super::*;
-    use crate::data::Rows;
+    use crate::data::{Rows, nothing_brought};
     use crate::function::caught;
-    use yilgashe_sys::{
-        Brought, Constraints, Queue, QueueEntry, RegionConstraint, RegionPair, RoleRequirement,
-        RoleRequirements, SoftObjectives, TeamComposition, TeamSizeConstraint,
-    };
+    use yilgashe_sys::{Queue, QueueEntry, SoftObjectives, TeamComposition, TeamSizeConstraint};
 
     /// Guests from 1 to n without a row, no constraint, the wait objective only.
     fn choice(n: u64, a: usize, b: usize) -> Choice {
@@ -133,37 +130,10 @@ mod tests {
             ..QueueEntry::default()
         };
         let entries: Vec<QueueEntry> = (1..=n).map(entry).collect();
-        let nobody = RoleRequirement {
-            role: 0,
-            least: 1,
-            bounded: false,
-            most: 0,
-        };
-        let unknown = RegionPair {
-            first: 9,
-            second: 9,
-        };
         Choice {
             queue: Queue::of(&entries),
             sizes: TeamComposition { a, b },
-            constraints: Constraints {
-                brought: Brought {
-                    sizes: false,
-                    roles: false,
-                    parties: false,
-                    latency: false,
-                    regions: false,
-                },
-                sizes: TeamSizeConstraint { a: 9, b: 9 },
-                roles: RoleRequirements {
-                    of: [nobody; 8],
-                    len: 9,
-                },
-                regions: RegionConstraint {
-                    pairs: [unknown; 16],
-                    count: 17,
-                },
-            },
+            constraints: nothing_brought(),
             waiting_friends: false,
             objectives: SoftObjectives {
                 kinds: [2; 8],

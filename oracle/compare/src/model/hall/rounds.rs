@@ -136,11 +136,8 @@ fn searched(matches: Vec<Teams>, columns: &Columns) -> Formed {
 mod tests {
     use super::super::super::CLOCK_LIMIT;
     use super::*;
-    use crate::data::{Rows, Sheets};
-    use yilgashe_sys::{
-        Brought, Constraints, QueueEntry, RegionConstraint, RegionPair, RoleRequirement,
-        RoleRequirements, RoundRules, SoftObjectives, TeamComposition, TeamSizeConstraint,
-    };
+    use crate::data::{Rows, Sheets, nothing_brought};
+    use yilgashe_sys::{QueueEntry, RoundRules, SoftObjectives, TeamComposition};
 
     const TABLE: [f64; 4] = [1000.0, 1280.0, 1010.0, 1090.0];
 
@@ -186,37 +183,9 @@ mod tests {
 
     /// Wait alone counts, and nothing is brought.
     fn full(weight: f64) -> Search {
-        let nobody = RoleRequirement {
-            role: 0,
-            least: 1,
-            bounded: false,
-            most: 0,
-        };
-        let unknown = RegionPair {
-            first: 9,
-            second: 9,
-        };
-        let constraints = Constraints {
-            brought: Brought {
-                sizes: false,
-                roles: false,
-                parties: false,
-                latency: false,
-                regions: false,
-            },
-            sizes: TeamSizeConstraint { a: 9, b: 9 },
-            roles: RoleRequirements {
-                of: [nobody; 8],
-                len: 9,
-            },
-            regions: RegionConstraint {
-                pairs: [unknown; 16],
-                count: 17,
-            },
-        };
         Search::Full(FullRound {
             rules: RoundRules {
-                constraints,
+                constraints: nothing_brought(),
                 waiting_friends: false,
             },
             objectives: SoftObjectives {
