@@ -6,7 +6,7 @@ use mathlib.Core.Logic.{_⊎_, inl, inr}
 use mathlib.Core.List.{List, [], _∷_, _++_, List·Memᴰ, List·Memᴰ·head, List·Memᴰ·tail, List·Memᴰ·not-nil, List·Memᴰ·cases-cons}
 use borrow.Author.Tests.{eqb-true}
 use lib.Dec.{eqb}
-use Rattle.base.specs.Lists.{seek, any, every, member}
+use Rattle.base.specs.Lists.{seek, any, every, keep, member}
 use Rattle.base.proofs.Cases.{cases, never}
 use Rattle.base.proofs.Loops.{every-append, any-append}
 use Rattle.base.proofs.Members.{every-fails, member-head, member-tail}
@@ -156,3 +156,32 @@ module _ {A : Type 0} (f : A → Bool) where
       go : (b : Bool) → f x ≡ b → cond b true (any f xs) ≡ true → (any f xs ≡ true → (y : A) × (List·Memᴰ y xs × (f y ≡ true))) → (y : A) × (List·Memᴰ y (x ∷ xs) × (f y ≡ true))
       go true e h rest = (x, (List·Memᴰ·head refl, e))
       go false e h rest = (rest h .0, (List·Memᴰ·tail (rest h .1 .0), rest h .1 .1))
+
+-- ---- those that are kept
+
+module _ {A : Type 0} (p : A → Bool) where
+  -- who is in the list and passes is kept
+  pub kept-in : (x : A) (xs : List A) → List·Memᴰ x xs → p x ≡ true → List·Memᴰ x (keep p xs)
+  unfolding keep
+  kept-in x [] m e = absurd (List·Memᴰ·not-nil m)
+  kept-in x (y ∷ xs) m e = go (p y) refl (List·Memᴰ·cases-cons m) (λ n. kept-in x xs n e)
+    where
+      go : (b : Bool) → p y ≡ b → (x ≡ y) ⊎ List·Memᴰ x xs → (List·Memᴰ x xs → List·Memᴰ x (keep p xs)) → List·Memᴰ x (cond b (y ∷ keep p xs) (keep p xs))
+      go true q (inl i) f = List·Memᴰ·head i
+      go true q (inr n) f = List·Memᴰ·tail (f n)
+      go false q (inl i) f = never cc
+      go false q (inr n) f = f n
+
+  -- who is kept is in the list and passes
+  pub kept-out : (x : A) (xs : List A) → List·Memᴰ x (keep p xs) → List·Memᴰ x xs × (p x ≡ true)
+  unfolding keep
+  kept-out x [] m = absurd (List·Memᴰ·not-nil m)
+  kept-out x (y ∷ xs) m = go (p y) refl m (kept-out x xs)
+    where
+      go : (b : Bool) → p y ≡ b → List·Memᴰ x (cond b (y ∷ keep p xs) (keep p xs)) → (List·Memᴰ x (keep p xs) → List·Memᴰ x xs × (p x ≡ true)) → List·Memᴰ x (y ∷ xs) × (p x ≡ true)
+      go false q n f = (List·Memᴰ·tail (f n .0), f n .1)
+      go true q n f = place (List·Memᴰ·cases-cons n)
+        where
+          place : (x ≡ y) ⊎ List·Memᴰ x (keep p xs) → List·Memᴰ x (y ∷ xs) × (p x ≡ true)
+          place (inl i) = (List·Memᴰ·head i, cc)
+          place (inr k) = (List·Memᴰ·tail (f k .0), f k .1)

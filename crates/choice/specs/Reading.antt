@@ -65,13 +65,13 @@ admitted r c queue p = (not (c .brought .latency) || aboveZero (ratingOf r p)) &
 abbrev pub wants : Roster → Constraints → ℕ → ℕ → Bool
 wants r c p q = not (eqb (partyIn r c p) 0) && eqb (partyIn r c q) (partyIn r c p)
 
--- must whoever waits with entry e be seated where p is, as a friend who waits?
+-- must whoever waits with entry e be seated where p is, as a friend who waits, if waiting friends are brought?
 abbrev pub invites : Bool → List QueueEntry → ℕ → QueueEntry → Bool
-invites on es p e = on && (not (eqb (e .party) 0) && waitsIn es (e .party) p)
+invites friends es p e = friends && (not (eqb (e .party) 0) && waitsIn es (e .party) p)
 
 -- by one or the other?
 abbrev pub expects : Roster → Constraints → Bool → List QueueEntry → ℕ → QueueEntry → Bool
-expects r c on es p e = wants r c p (e .player) || invites on es p e
+expects r c friends es p e = wants r c p (e .player) || invites friends es p e
 
 -- may q not play against p?
 abbrev pub bars : Roster → Constraints → ℕ → ℕ → Bool
@@ -136,18 +136,18 @@ columns queued rows rated admits counts same expected foes =
     }
 
 -- what they say of player p at place i
-pub record Says (r : Roster) (c : Constraints) (on : Bool) (es : List QueueEntry) (x : Columns) (i p : ℕ) : Type 0 where
+pub record Says (r : Roster) (c : Constraints) (friends : Bool) (es : List QueueEntry) (x : Columns) (i p : ℕ) : Type 0 where
   pub row : getD (x .rows) i false ≡ isSome (ratingOf r p)
   pub rating : getD (x .rated) i nan ≡ Option·getD (ratingOf r p) Floats.zero
   pub admits : getD (x .admits) i false ≡ admitted r c (playersOf es) p
   pub counts : getD (x .counts) i 0 ≡ packed (map (countsFor r p) (required c))
   pub same : getD (x .same) i 0 ≡ marks (λ q. eqb q p) (playersOf es)
-  pub expected : getD (x .expected) i 0 ≡ marks (expects r c on es p) es
+  pub expected : getD (x .expected) i 0 ≡ marks (expects r c friends es p) es
   pub foes : getD (x .foes) i 0 ≡ marks (bars r c p) (playersOf es)
 
 -- the columns and bounds stand for a roster, which passed its check, for constraints, and for these entries
-pub record StandFor (r : Roster) (c : Constraints) (on : Bool) (es : List QueueEntry) (x : Columns) (b : Bounds) : Type 0 where
+pub record StandFor (r : Roster) (c : Constraints) (friends : Bool) (es : List QueueEntry) (x : Columns) (b : Bounds) : Type 0 where
   pub checked : rulesCheck r ≡ gives tt
   pub bounds : b ≡ boundsOf (required c)
   pub queued : take (length es) (x .queued) ≡ playersOf es
-  pub says : (i : ℕ) → i < length es → Says r c on es x i (getD (x .queued) i 0)
+  pub says : (i : ℕ) → i < length es → Says r c friends es x i (getD (x .queued) i 0)

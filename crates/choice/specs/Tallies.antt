@@ -50,18 +50,18 @@ unfoldable pub fits : Bounds → Tally → Bool
 fits b t = t .fine && (eqb (bitAnd (t .wanted) (t .present)) (t .wanted) && inLimits (b .asked) (t .counts) (b .least) (b .most))
 
 -- a match while it fills, with its tally
-pub record Tallying (r : Roster) (c : Constraints) (on : Bool) (s : TeamComposition) (es : List QueueEntry) (m : MatchState) (t : Tally) : Type 0 where
+pub record Tallying (r : Roster) (c : Constraints) (friends : Bool) (s : TeamComposition) (es : List QueueEntry) (m : MatchState) (t : Tally) : Type 0 where
   pub lined : m ≡ lineup (m .a .players) (m .b .players)
   pub among : Within (seated m) (playersOf es)
   -- everyone may be seated, and nobody of B may not play against somebody of A
   pub fine : t .fine ≡ (sizesFit c s && (every (admitted r c (playersOf es)) (seated m) && every (λ p. every (λ q. not (bars r c p q)) (m .b .players)) (m .a .players)))
   pub counts : t .counts ≡ packed (map (λ (q : RoleRequirement). roleCount r (q .role) (seated m)) (required c))
   pub present : t .present ≡ marks (λ q. member q (seated m)) (playersOf es)
-  pub wanted : t .wanted ≡ marks (λ e. any (λ p. expects r c on es p e) (seated m)) es
+  pub wanted : t .wanted ≡ marks (λ e. any (λ p. expects r c friends es p e) (seated m)) es
   pub barred : t .barred ≡ marks (λ q. any (λ p. bars r c p q) (m .a .players)) (playersOf es)
 
 -- what a walk over these columns comes to, whatever roster, constraints and entries they stand for: every choice is weighed
 abbrev pub Walked : TeamComposition → Columns → Bounds → ℕ → ℕ → ℕ → MatchState → Sums → Tally → List SoftObjective → ℕ → SoFar → SoFar → Type 0
 Walked s x b from rest left m sums tally objectives count best out =
-    (r : Roster) (c : Constraints) (on : Bool) (es : List QueueEntry) → from + rest ≤ length es → StandFor r c on es x b → Summing r s m sums → Tallying r c on s es m tally
-    → out ≡ through s (weighed (terms r c on objectives count) es) m left (take rest (drop from (x .queued))) best
+    (r : Roster) (c : Constraints) (friends : Bool) (es : List QueueEntry) → from + rest ≤ length es → StandFor r c friends es x b → Summing r s m sums → Tallying r c friends s es m tally
+    → out ≡ through s (weighed (terms r c friends objectives count) es) m left (take rest (drop from (x .queued))) best

@@ -3,13 +3,13 @@ use mathlib.Core.Path.{_≡_, refl, sym, subst}
 use mathlib.Core.Bool.{true}
 use mathlib.Core.List.{List, List·Memᴰ, List·Memᴰ·head, Memᴰ·append-right}
 use Rattle.base.specs.Lists.{All}
+use Rattle.base.proofs.Every.{kept-out}
 use Rattle.queue.specs.declared.QueueEntry.{QueueEntry}
 use Rattle.matchmaker.specs.Quality.{MatchState}
 use Rattle.seating.specs.declared.TeamComposition.{TeamComposition}
 use Rattle.candidate.specs.Exhaustive.{exhaustiveMatches}
 use Rattle.choice.specs.Full.{Terms, passes, passing}
 use Rattle.choice.specs.WaitingFriends.{Together}
-use Rattle.choice.proofs.FullLaws.{kept-out}
 use Rattle.choice.proofs.FriendLaws.{passes-both}
 use Rattle.hall.specs.Rounds.{FullRound, none-passes, best}
 

@@ -43,9 +43,9 @@ pub struct TeamSizeConstraint {
     pub b: usize,
 }
 
-/// Which kinds of constraint a call brings.
+/// Which kinds of constraint a call brings; by default none.
 #[repr(C)]
-#[derive(Clone, Copy, Debug)]
+#[derive(Clone, Copy, Debug, Default)]
 pub struct Brought {
     pub sizes: bool,
     pub roles: bool,

@@ -75,13 +75,7 @@ fn region_pairs(pairs: [(u8, u8); 16], count: usize) -> RegionConstraint {
 
 fn no_rules() -> Constraints {
     Constraints {
-        brought: Brought {
-            sizes: false,
-            roles: false,
-            parties: false,
-            latency: false,
-            regions: false,
-        },
+        brought: Brought::default(),
         sizes: TeamSizeConstraint { a: 0, b: 0 },
         roles: no_requirements(),
         regions: region_pairs([(0, 0); 16], 0),

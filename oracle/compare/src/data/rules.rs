@@ -77,13 +77,7 @@ pub fn nothing_brought() -> Constraints {
         second: 9,
     };
     Constraints {
-        brought: Brought {
-            sizes: false,
-            roles: false,
-            parties: false,
-            latency: false,
-            regions: false,
-        },
+        brought: Brought::default(),
         sizes: TeamSizeConstraint { a: 9, b: 9 },
         roles: RoleRequirements {
             of: [nobody; 8],

@@ -91,11 +91,8 @@ fn alone(kind: u8, weight: f64) -> SoftObjectives {
 /// Latency alone is brought, or nothing.
 pub(super) fn latency(latency: bool) -> Brought {
     Brought {
-        sizes: false,
-        roles: false,
-        parties: false,
         latency,
-        regions: false,
+        ..Brought::default()
     }
 }
 

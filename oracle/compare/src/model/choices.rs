@@ -237,13 +237,7 @@ mod tests {
             queue: Queue::of(&entries),
             sizes: TeamComposition { a, b },
             constraints: Constraints {
-                brought: Brought {
-                    sizes: false,
-                    roles: false,
-                    parties: false,
-                    latency: false,
-                    regions: false,
-                },
+                brought: Brought::default(),
                 sizes: TeamSizeConstraint { a: 1, b: 1 },
                 roles: RoleRequirements {
                     of: [role; 8],
