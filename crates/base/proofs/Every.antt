@@ -6,7 +6,7 @@ use mathlib.Core.Logic.{_⊎_, inl, inr}
 use mathlib.Core.List.{List, [], _∷_, _++_, List·Memᴰ, List·Memᴰ·head, List·Memᴰ·tail, List·Memᴰ·not-nil, List·Memᴰ·cases-cons}
 use borrow.Author.Tests.{eqb-true}
 use lib.Dec.{eqb}
-use Rattle.base.specs.Lists.{seek, any, every, keep, member}
+use Rattle.base.specs.Lists.{seek, any, every, keep, member, All}
 use Rattle.base.proofs.Cases.{cases, never}
 use Rattle.base.proofs.Loops.{every-append, any-append}
 use Rattle.base.proofs.Members.{every-fails, member-head, member-tail}
@@ -185,3 +185,12 @@ module _ {A : Type 0} (p : A → Bool) where
           place : (x ≡ y) ⊎ List·Memᴰ x (keep p xs) → List·Memᴰ x (y ∷ xs) × (p x ≡ true)
           place (inl i) = (List·Memᴰ·head i, cc)
           place (inr k) = (List·Memᴰ·tail (f k .0), f k .1)
+
+-- who passes the second test wherever they pass the first may be kept by the first alone
+pub keep-keep : {A : Type 0} (p q : A → Bool) (xs : List A) → All (λ x. p x ≡ true → q x ≡ true) xs → keep p (keep q xs) ≡ keep p xs
+unfolding keep
+keep-keep p q [] a = refl
+keep-keep {A} p q (x ∷ xs) a =
+    cases (p x)
+    (λ t. rw (a .0 t, t) (ap (λ (r : List A). x ∷ r) (keep-keep p q xs (a .1))))
+    (λ f. cases (q x) (λ u. rw (u, f) (keep-keep p q xs (a .1))) (λ v. rw (v, f) (keep-keep p q xs (a .1))))

@@ -1,4 +1,4 @@
-// What every crate shares: document 01's refusals; `abs`, `min` and the test for NaN on floats; a number with a limit, and whether one is among
+// What every crate shares: the refusals of documents 01 and 02; `abs`, `min` and the test for NaN on floats; a number with a limit, and whether one is among
 // others.
 ghost use mathlib.Core.Path.{_≡_};
 ghost use Prim.Native.Nat as Nat;
@@ -7,7 +7,7 @@ ghost use Rattle.base.specs.Refusals.{refusalNumber};
 ghost use Rattle.base.specs.Floats.{absOf, minOf};
 ghost use Rattle.base.specs.Lists.{member};
 
-// Document 01's twelve refusals, in the order of its table.
+// Document 01's twelve refusals, in the order of its table, and those that document 02 added.
 pub enum Refusal {
     OverLimit,
     BadRoster,
@@ -21,6 +21,7 @@ pub enum Refusal {
     HallFull,
     NotWaiting,
     NoSeats,
+    NoGame,
 }
 
 // What a check answers.
@@ -30,7 +31,7 @@ pub enum Checked {
 }
 
 impl Refusal {
-    // The number that document 01's table gives the refusal.
+    // The refusal's number in the table.
     pub fn number(self) -> u8
         ensures { λ r. ⌜ r ≡ refusalNumber self ⌝ }
     {
@@ -47,6 +48,7 @@ impl Refusal {
             Refusal::HallFull => 10,
             Refusal::NotWaiting => 11,
             Refusal::NoSeats => 12,
+            Refusal::NoGame => 13,
         }
     }
 }

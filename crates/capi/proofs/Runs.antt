@@ -6,10 +6,11 @@ use mathlib.Core.List.{List}
 use lib.Ieee.{Float}
 use lib.ListN.{take}
 use Rattle.base.specs.Lists.{any}
+use Rattle.seating.specs.declared.TeamComposition.{TeamComposition}
 use Rattle.hall.specs.declared.Hall.{Hall}
 use Rattle.hall.specs.Hall.{HallState, hallOf, empty, Deed, keyedRule}
 use Rattle.hall.specs.Rounds.{RoundCall, roundRule}
-use Rattle.demand.specs.Calls.{Call, keyed, round, no-kind, Answer, answered, handed}
+use Rattle.demand.specs.Calls.{Call, keyed, round, no-kind, Answer, answered, rounded}
 use Rattle.demand.specs.Runs.{Met, keyed-met, round-met, no-kind-met, Run, Kept}
 use Rattle.demand.proofs.Runs.{demand3-of-runs}
 use Rattle.capi.specs.Scores.{isNoKind}
@@ -24,21 +25,21 @@ pub keyed-export-met : (h : HallState) (k : ℕ) (d : Deed) (r : Keyed) → turn
 keyed-export-met h k d r e = keyed-met (turnIn r) e
 
 module _ (h : HallState) (c : RoundCall) (r : Rounded) (ps : List ℕ) (qs : List Float) where
-  -- an exported greedy or beam round met the hall's promise
-  pub round-export-met : RoundNumbers (roundRule h c) r ps qs → Met h (round c) (handed (roundIn r ps qs .handed) (r .tried)) (hallOf (r .hall))
+  -- an exported greedy or beam round, or a dispatch, met the hall's promise
+  pub round-export-met : RoundNumbers (roundRule h c) r ps qs → Met h (round c) (rounded (roundIn r ps qs) .answer) (hallOf (r .hall))
   round-export-met n = round-met (roundIn r ps qs) (n .turn)
 
   -- so did an exported full round whose listed codes are all kinds
-  pub full-export-met : (o : SoftObjectives) → any isNoKind (take (o .len) (o .kinds)) ≡ false → RoundNumbers (fullRule h o c) r ps qs →
-      Met h (round c) (handed (roundIn r ps qs .handed) (r .tried)) (hallOf (r .hall))
-  full-export-met o e n = round-met (roundIn r ps qs) (rw e at n .turn)
+  pub full-export-met : (g : ℕ) (o : SoftObjectives) → any isNoKind (take (o .len) (o .kinds)) ≡ false → RoundNumbers (fullRule h g o c) r ps qs →
+      Met h (round c) (rounded (roundIn r ps qs) .answer) (hallOf (r .hall))
+  full-export-met g o e n = round-met (roundIn r ps qs) (rw e at n .turn)
 
   -- and one with a code that is no kind, which is turned away
-  pub no-kind-export-met : (o : SoftObjectives) → any isNoKind (take (o .len) (o .kinds)) ≡ true → RoundNumbers (fullRule h o c) r ps qs →
-      Met h (no-kind (c .sheets)) (handed (roundIn r ps qs .handed) (r .tried)) (hallOf (r .hall))
-  no-kind-export-met o e n = no-kind-met (roundIn r ps qs) (rw e at n .turn)
+  pub no-kind-export-met : (g : ℕ) (o : SoftObjectives) → any isNoKind (take (o .len) (o .kinds)) ≡ true → RoundNumbers (fullRule h g o c) r ps qs →
+      Met h (no-kind g (c .sheets)) (rounded (roundIn r ps qs) .answer) (hallOf (r .hall))
+  no-kind-export-met g o e n = no-kind-met (roundIn r ps qs) (rw e at n .turn)
 
 -- demand 3 of every run from the exported empty hall
-pub demand3-of-exports : (start : Hall) → hallOf start ≡ empty → (calls : List Call) (rs : List Answer) (l : HallState) →
-    Run (hallOf start) calls rs l → Kept calls rs l
-demand3-of-exports start e calls rs l run = demand3-of-runs calls rs l (subst (λ (h : HallState). Run h calls rs l) e run)
+pub demand3-of-exports : (sizes : List TeamComposition) (start : Hall) → hallOf start ≡ empty sizes → (calls : List Call) (rs : List Answer) (l : HallState) →
+    Run (hallOf start) calls rs l → Kept sizes calls rs l
+demand3-of-exports sizes start e calls rs l run = demand3-of-runs sizes calls rs l (subst (λ (h : HallState). Run h calls rs l) e run)

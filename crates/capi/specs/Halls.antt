@@ -8,12 +8,12 @@ use lib.ListN.{take}
 use Rattle.base.specs.Lists.{any}
 use Rattle.base.specs.Numbers.{valueOr, outcomeIn}
 use Rattle.roster.specs.Roster.{Roster}
-use Rattle.seating.specs.declared.TeamComposition.{TeamComposition}
 use Rattle.seating.specs.Seating.{Sheets}
 use Rattle.choice.specs.Full.{terms}
 use Rattle.hall.specs.Hall.{HallState, hallOf, Turn}
-use Rattle.hall.specs.Rounds.{full, RoundCall, RoundTurn, roundRule}
-use Rattle.demand.specs.Calls.{turnedAway}
+use Rattle.hall.specs.Games.{gameIn}
+use Rattle.hall.specs.Rounds.{full, of-game, RoundCall, RoundTurn, roundRule}
+use Rattle.demand.specs.Calls.{turnedAway, noKindRefusal}
 use Rattle.capi.specs.Rules.{constraintsOf}
 use Rattle.capi.specs.Scores.{isNoKind, softsOf}
 use Rattle.capi.specs.Searches.{sheets}
@@ -37,6 +37,7 @@ roundIn r players qualities =
       hall = hallOf (r .hall);
       handed = record { answer = outcomeIn (r .refusal) (r .count); sheets = sheets players qualities };
       tried = r .tried;
+      served = gameIn (r .served);
     }
 
 -- the numbers tell this turn; the count, which a refusal hides from it, is 0 there
@@ -47,14 +48,14 @@ pub record RoundNumbers (t : RoundTurn) (r : Rounded) (players : List ℕ) (qual
 -- ---- the full round
 
 -- the call of the hall that an exported full round stands for
-abbrev pub fullCall : TeamComposition → RoundRules → SoftObjectives → ℕ → Roster → Sheets → RoundCall
-fullCall sizes rules o clock r s =
+abbrev pub fullCall : ℕ → RoundRules → SoftObjectives → ℕ → Roster → Sheets → RoundCall
+fullCall g rules o clock r s =
     record {
-      round = full sizes (terms r (constraintsOf (rules .constraints)) (rules .«waiting_friends») (softsOf (o .kinds) (o .weights)) (o .len));
+      round = of-game g (full (terms r (constraintsOf (rules .constraints)) (rules .«waiting_friends») (softsOf (o .kinds) (o .weights)) (o .len)));
       clock = clock;
       sheets = s;
     }
 
 -- a soft kind that is none, or the round
-abbrev pub fullRule : HallState → SoftObjectives → RoundCall → RoundTurn
-fullRule h o c = cond (any isNoKind (take (o .len) (o .kinds))) (turnedAway h (c .sheets) 1) (roundRule h c)
+abbrev pub fullRule : HallState → ℕ → SoftObjectives → RoundCall → RoundTurn
+fullRule h g o c = cond (any isNoKind (take (o .len) (o .kinds))) (turnedAway h (c .sheets) (noKindRefusal g)) (roundRule h c)

@@ -3,7 +3,7 @@
 ghost use mathlib.Core.Path.{_≡_};
 ghost use Rattle.roster.specs.Roster.{ofRatings, ofDeviations, ofRules};
 ghost use Rattle.hall.specs.Hall.{hallOf, empty, book, withdraw, keyedRule};
-ghost use Rattle.hall.specs.Rounds.{greedy, beam, roundRule};
+ghost use Rattle.hall.specs.Rounds.{greedy, beam, of-game, dispatch, calling, roundRule};
 ghost use Rattle.capi.specs.Searches.{sheets};
 ghost use Rattle.capi.specs.Halls.{turnIn, RoundNumbers, fullCall, fullRule};
 use crate::rules::Constraints;
@@ -11,6 +11,7 @@ use crate::scores::SoftObjectives;
 use beam::BeamSearch;
 use hall::Booking;
 use hall::Hall;
+use hall::games;
 use hall::notes;
 use hall::rounds;
 use hall::waiting;
@@ -32,19 +33,27 @@ pub struct RoundRules {
     pub waiting_friends: bool,
 }
 
-// How many matches were handed out and how many choices were tried, 0 and 0 where it is refused.
+// The sizes of the eight games, 0 and 0 of one that is not used.
+#[repr(C)]
+pub struct Games {
+    pub sizes: [TeamComposition; 8],
+}
+
+// How many matches were handed out and how many choices were tried, 0 and 0 where it is refused; and the game that a dispatch served, 255
+// where it served none, was refused, or is another round.
 #[repr(C)]
 pub struct Rounded {
     pub hall: Hall,
     pub count: usize,
     pub tried: u64,
+    pub served: u8,
     pub refusal: u8,
 }
 
-// Nobody waits, and no key is noted.
+// Nobody waits, no key is noted, and no game was served.
 #[no_mangle]
-pub extern "C" fn yilgashe_hall_empty() -> Hall
-    ensures { λ r. ⌜ hallOf r ≡ empty ⌝ }
+pub extern "C" fn yilgashe_hall_empty(games: Games) -> Hall
+    ensures { λ r. ⌜ hallOf r ≡ empty (games .sizes) ⌝ }
 {
     let booking = Booking {
         player: 0,
@@ -52,14 +61,18 @@ pub extern "C" fn yilgashe_hall_empty() -> Hall
         rating: 0.0,
         party: 0,
         role: 0,
+        game: 0,
     };
     let note = notes::booking_note(booking, 0);
+    let sizes = games.sizes;
     Hall {
         bookings: [booking; 64],
         waiting: 0,
         keys: [0; 1024],
         notes: [note; 1024],
         noted: 0,
+        sizes: sizes,
+        served: 255,
     }
 }
 
@@ -72,7 +85,8 @@ pub extern "C" fn yilgashe_hall_book(hall: Hall, key: u64, booking: Booking) -> 
     let mut out = hall;
     let k = out.waiting;
     let n = out.noted;
-    if hall::is_over(k, n) {
+    let sizes = out.sizes;
+    if hall::is_over(k, n, sizes, out.served) {
         return Keyed {
             hall: out,
             refusal: 1,
@@ -119,7 +133,8 @@ pub extern "C" fn yilgashe_hall_withdraw(hall: Hall, key: u64, player: u64) -> K
     let mut out = hall;
     let k = out.waiting;
     let noted = out.noted;
-    if hall::is_over(k, noted) {
+    let sizes = out.sizes;
+    if hall::is_over(k, noted, sizes, out.served) {
         return Keyed {
             hall: out,
             refusal: 1,
@@ -159,27 +174,40 @@ pub extern "C" fn yilgashe_hall_withdraw(hall: Hall, key: u64, player: u64) -> K
 #[no_mangle]
 pub extern "C" fn yilgashe_hall_greedy_round(
     hall: Hall,
-    sizes: TeamComposition,
+    game: u8,
     clock: u64,
     ids: &[u64],
     ratings: &[f64],
     players: &mut [u64],
     qualities: &mut [f64],
 ) -> Rounded
-    ensures { λ r. ⌜ RoundNumbers (roundRule (hallOf hall) (record { round = greedy sizes (ofRatings (now (ids .entry)) (now (ratings .entry))); clock = clock; sheets = sheets (now (players .entry)) (now (qualities .entry)) })) r (now (players .exit)) (now (qualities .exit)) ⌝ }
+    ensures { λ r. ⌜ RoundNumbers (roundRule (hallOf hall) (calling (of-game game (greedy (ofRatings (now (ids .entry)) (now (ratings .entry))))) clock (now (players .entry)) (now (qualities .entry)))) r (now (players .exit)) (now (qualities .exit)) ⌝ }
 {
     let mut out = hall;
     let n = out.waiting;
-    if hall::is_over(n, out.noted) {
+    let sizes = out.sizes;
+    let refusal = hall::round_answer(game, hall::is_over(n, out.noted, sizes, out.served));
+    if refusal != 0 {
         return Rounded {
             hall: out,
             count: 0,
             tried: 0,
-            refusal: 1,
+            served: 255,
+            refusal: refusal,
         };
     }
     let bookings = out.bookings;
-    let handed = rounds::greedy_handed(bookings, n, sizes, clock, ids, ratings, players, qualities);
+    let handed = rounds::greedy_handed(
+        bookings,
+        n,
+        game,
+        games::sizes_of(sizes, game),
+        clock,
+        ids,
+        ratings,
+        players,
+        qualities,
+    );
     let staying = waiting::without_seated(bookings, n, players, handed.seats);
     let rest = staying.bookings;
     out.bookings = rest;
@@ -188,6 +216,7 @@ pub extern "C" fn yilgashe_hall_greedy_round(
         hall: out,
         count: handed.count,
         tried: handed.tried,
+        served: 255,
         refusal: handed.refusal,
     }
 }
@@ -196,7 +225,7 @@ pub extern "C" fn yilgashe_hall_greedy_round(
 pub extern "C" fn yilgashe_hall_beam_round(
     hall: Hall,
     search: BeamSearch,
-    sizes: TeamComposition,
+    game: u8,
     objective: MatchObjective,
     clock: u64,
     ids: &[u64],
@@ -205,24 +234,28 @@ pub extern "C" fn yilgashe_hall_beam_round(
     players: &mut [u64],
     qualities: &mut [f64],
 ) -> Rounded
-    ensures { λ r. ⌜ RoundNumbers (roundRule (hallOf hall) (record { round = beam sizes (search .width) objective (ofDeviations (now (ids .entry)) (now (ratings .entry)) (now (deviations .entry))); clock = clock; sheets = sheets (now (players .entry)) (now (qualities .entry)) })) r (now (players .exit)) (now (qualities .exit)) ⌝ }
+    ensures { λ r. ⌜ RoundNumbers (roundRule (hallOf hall) (calling (of-game game (beam (search .width) objective (ofDeviations (now (ids .entry)) (now (ratings .entry)) (now (deviations .entry))))) clock (now (players .entry)) (now (qualities .entry)))) r (now (players .exit)) (now (qualities .exit)) ⌝ }
 {
     let mut out = hall;
     let n = out.waiting;
-    if hall::is_over(n, out.noted) {
+    let sizes = out.sizes;
+    let refusal = hall::round_answer(game, hall::is_over(n, out.noted, sizes, out.served));
+    if refusal != 0 {
         return Rounded {
             hall: out,
             count: 0,
             tried: 0,
-            refusal: 1,
+            served: 255,
+            refusal: refusal,
         };
     }
     let bookings = out.bookings;
     let handed = rounds::beam_handed(
         bookings,
         n,
+        game,
         search,
-        sizes,
+        games::sizes_of(sizes, game),
         objective,
         clock,
         ids,
@@ -239,15 +272,16 @@ pub extern "C" fn yilgashe_hall_beam_round(
         hall: out,
         count: handed.count,
         tried: handed.tried,
+        served: 255,
         refusal: handed.refusal,
     }
 }
 
-// A code that is no kind is refused before everything, and changes nothing.
+// A code that is no kind is refusal 1, before all others but 13, and changes nothing.
 #[no_mangle]
 pub extern "C" fn yilgashe_hall_full_round(
     hall: Hall,
-    sizes: TeamComposition,
+    game: u8,
     rules: RoundRules,
     objectives: SoftObjectives,
     clock: u64,
@@ -259,23 +293,27 @@ pub extern "C" fn yilgashe_hall_full_round(
     players: &mut [u64],
     qualities: &mut [f64],
 ) -> Rounded
-    ensures { λ r. ⌜ RoundNumbers (fullRule (hallOf hall) objectives (fullCall sizes rules objectives clock (ofRules (now (ids .entry)) (now (ratings .entry)) (now (parties .entry)) (now (roles .entry)) (now (regions .entry))) (sheets (now (players .entry)) (now (qualities .entry))))) r (now (players .exit)) (now (qualities .exit)) ⌝ }
+    ensures { λ r. ⌜ RoundNumbers (fullRule (hallOf hall) game objectives (fullCall game rules objectives clock (ofRules (now (ids .entry)) (now (ratings .entry)) (now (parties .entry)) (now (roles .entry)) (now (regions .entry))) (sheets (now (players .entry)) (now (qualities .entry))))) r (now (players .exit)) (now (qualities .exit)) ⌝ }
 {
     let mut out = hall;
+    let n = out.waiting;
+    let sizes = out.sizes;
+    let refusal = hall::round_answer(game, hall::is_over(n, out.noted, sizes, out.served));
+    if refusal != 0 {
+        return Rounded {
+            hall: out,
+            count: 0,
+            tried: 0,
+            served: 255,
+            refusal: refusal,
+        };
+    }
     if objectives.has_no_kind() {
         return Rounded {
             hall: out,
             count: 0,
             tried: 0,
-            refusal: 1,
-        };
-    }
-    let n = out.waiting;
-    if hall::is_over(n, out.noted) {
-        return Rounded {
-            hall: out,
-            count: 0,
-            tried: 0,
+            served: 255,
             refusal: 1,
         };
     }
@@ -283,7 +321,8 @@ pub extern "C" fn yilgashe_hall_full_round(
     let handed = rounds::full_handed(
         bookings,
         n,
-        sizes,
+        game,
+        games::sizes_of(sizes, game),
         crate::rules::constraints_of(rules.constraints),
         rules.waiting_friends,
         objectives.objectives(),
@@ -305,6 +344,60 @@ pub extern "C" fn yilgashe_hall_full_round(
         hall: out,
         count: handed.count,
         tried: handed.tried,
+        served: 255,
+        refusal: handed.refusal,
+    }
+}
+
+// A greedy round of the game whose turn it is. `served` names it.
+#[no_mangle]
+pub extern "C" fn yilgashe_hall_dispatch(
+    hall: Hall,
+    clock: u64,
+    ids: &[u64],
+    ratings: &[f64],
+    players: &mut [u64],
+    qualities: &mut [f64],
+) -> Rounded
+    ensures { λ r. ⌜ RoundNumbers (roundRule (hallOf hall) (calling (dispatch (ofRatings (now (ids .entry)) (now (ratings .entry)))) clock (now (players .entry)) (now (qualities .entry)))) r (now (players .exit)) (now (qualities .exit)) ⌝ }
+{
+    let mut out = hall;
+    let n = out.waiting;
+    let sizes = out.sizes;
+    let last = out.served;
+    if hall::is_over(n, out.noted, sizes, last) {
+        return Rounded {
+            hall: out,
+            count: 0,
+            tried: 0,
+            served: 255,
+            refusal: 1,
+        };
+    }
+    let bookings = out.bookings;
+    let game = games::next(bookings, n, sizes, last);
+    let handed = rounds::greedy_handed(
+        bookings,
+        n,
+        game,
+        games::sizes_of(sizes, game),
+        clock,
+        ids,
+        ratings,
+        players,
+        qualities,
+    );
+    let staying = waiting::without_seated(bookings, n, players, handed.seats);
+    let served = games::served(game, handed.refusal);
+    let rest = staying.bookings;
+    out.bookings = rest;
+    out.waiting = staying.waiting;
+    out.served = games::last_served(last, served);
+    Rounded {
+        hall: out,
+        count: handed.count,
+        tried: handed.tried,
+        served: served,
         refusal: handed.refusal,
     }
 }

@@ -12,6 +12,7 @@ use Rattle.base.specs.Numbers.{refusalOf}
 use Rattle.base.specs.Lists.{any}
 use Rattle.base.proofs.Cases.{cases, never}
 use Rattle.hall.specs.declared.Booking.{Booking}
+use Rattle.hall.specs.Games.{isNoGame}
 use Rattle.hall.specs.Hall.{bookedBy, hasTimeOver, withoutGuest, Deed, book, withdraw, Deal, bookingAnswer, withdrawalAnswer, settled, deal, contentOf, answerIn}
 
 -- ---- the ordered refusals
@@ -28,7 +29,8 @@ accepted new = record { waiting = new; answer = gives tt }
 booked : (b : Booking) (waits room : Bool) (u : Unit {0}) → bookingAnswer b waits room ≡ gives u → (waits ≡ false) × (room ≡ true)
 unfolding bookingAnswer
 booked b waits room u e =
-    cases (hasTimeOver b) (λ t. never (let z : refused 4 ≡ gives u = rw t at e in cc)) (λ t. in-time waits room (rw t at e))
+    cases (isNoGame (b .game)) (λ g. never (let z : refused 13 ≡ gives u = rw g at e in cc))
+    (λ g. cases (hasTimeOver b) (λ t. never (let z : refused 4 ≡ gives u = rw (g, t) at e in cc)) (λ t. in-time waits room (rw (g, t) at e)))
   where
     in-time : (waits room : Bool) → cond waits (refused 9) (cond room (gives tt) (refused 10)) ≡ gives u → (waits ≡ false) × (room ≡ true)
     in-time true room e = never cc
@@ -61,9 +63,13 @@ settled-answer ws new (gives u) = refl
 -- each answer of a booking is one that can be noted of it
 booking-read : (b : Booking) (waits room : Bool) → answerIn 0 (refusalOf (bookingAnswer b waits room)) ≡ some (bookingAnswer b waits room)
 unfolding bookingAnswer answerIn
-booking-read b true room = cases (hasTimeOver b) (λ t. rw t) (λ t. rw t)
-booking-read b false true = cases (hasTimeOver b) (λ t. rw t) (λ t. rw t)
-booking-read b false false = cases (hasTimeOver b) (λ t. rw t) (λ t. rw t)
+booking-read b waits room =
+    cases (isNoGame (b .game)) (λ g. rw g) (λ g. cases (hasTimeOver b) (λ t. rw (g, t)) (λ t. rw (g, t) (in-time waits room)))
+  where
+    in-time : (waits room : Bool) → (let a : Outcome (Unit {0}) = cond waits (refused 9) (cond room (gives tt) (refused 10)) in answerIn 0 (refusalOf a) ≡ some a)
+    in-time true room = refl
+    in-time false true = refl
+    in-time false false = refl
 
 -- and so of a withdrawal
 withdrawal-read : (waits : Bool) → answerIn 1 (refusalOf (withdrawalAnswer waits)) ≡ some (withdrawalAnswer waits)

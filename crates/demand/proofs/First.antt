@@ -89,7 +89,7 @@ unfolding different
 originals-take o s [] e = e
 originals-take o s (keyed k d ∷ cs) e = originals-take (grow o (keyed k d)) _ cs (grow-take o s e k d)
 originals-take o s (round c ∷ cs) e = originals-take o s cs e
-originals-take o s (no-kind x ∷ cs) e = originals-take o s cs e
+originals-take o s (no-kind g x ∷ cs) e = originals-take o s cs e
 
 -- ---- the different keys are those seen and those of the list
 

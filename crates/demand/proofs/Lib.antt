@@ -7,6 +7,9 @@ pub mod Resend
 pub mod Origin
 pub mod First
 pub mod Count
+pub mod Over
 pub mod Demand
 pub mod Friends
+pub mod Dispatch
+pub mod Fair
 pub mod Runs

@@ -1,20 +1,21 @@
 -- Every resend has its original in the list before it, and gets its answer. Who waits is what the calls and their answers say.
 use Prim.Native.Nat.{ℕ}
 use mathlib.Core.Path.{_≡_, refl, sym, ap, _∙_, subst}
-use mathlib.Core.Bool.{true, _&&_}
+use mathlib.Core.Bool.{true, false, _&&_}
 use mathlib.Core.List.{List, [], _∷_, _++_}
 use mathlib.Core.Option.{Option, none, some}
-use Rattle.base.specs.Lists.{seek}
+use Rattle.base.specs.Lists.{seek, any}
 use Rattle.base.specs.Refusals.{Outcome}
 use Rattle.base.proofs.Cases.{never}
 use Rattle.base.proofs.Lookup.{found-new}
-use Rattle.seating.specs.Seating.{seats}
+use Rattle.seating.specs.declared.TeamComposition.{TeamComposition}
+use Rattle.seating.specs.Seating.{sizesOver, seats}
 use Rattle.matchmaker.specs.Quality.{MatchState}
 use Rattle.hall.specs.Hall.{HallState, withoutGuests, Content, same, KeyRecord, empty, Deed, book, withdraw, deal, contentOf, signed, answerIn, recorded, lookUp, Judgement, known, clash, full, fresh, judge, Turn, turn}
 use Rattle.demand.specs.Calls.{Call, keyed, round, no-kind, answered, Step, step, after, answers, original, resend, mark, originals, isOriginal, taken, moved, replay}
 use Rattle.demand.proofs.Deals.{book-elim, withdraw-elim, read-back}
 use Rattle.demand.proofs.Keys.{Old, judge-old, signatures, toMark, mark-judge}
-use Rattle.demand.proofs.Orderly.{Sane, served, step-served, sane-step, sane-after, sane-empty, log-stays, told, left}
+use Rattle.demand.proofs.Orderly.{Sane, handled, step-handled, sane-step, sane-after, sane-empty, sizes-step, log-stays, told, left}
 use Rattle.demand.proofs.Thin.{grow-step, grow-after}
 use Rattle.demand.proofs.Resend.{found-after, known-step}
 
@@ -28,8 +29,8 @@ record Born (h : HallState) (c : Call) (k : ℕ) (n : KeyRecord) : Type 0 where
   left : n ≡ recorded (signed k deed) (deal deed (h .waiting .bookings) .answer)
 
 -- a key that has no note, and has one after a call, is that call's
-born : (h : HallState) (c : Call) (k : ℕ) (n : KeyRecord) → lookUp k (h .log .records) ≡ none → lookUp k (served h c .hall .log .records) ≡ some n → Born h c k n
-born h (no-kind x) k n e f = never cc
+born : (h : HallState) (c : Call) (k : ℕ) (n : KeyRecord) → lookUp k (h .log .records) ≡ none → lookUp k (handled h c .hall .log .records) ≡ some n → Born h c k n
+born h (no-kind g x) k n e f = never cc
 born h (round c) k n e f = let z : lookUp k (h .log .records) ≡ some n = rw (log-stays h c) at f in never cc
 born h (keyed j d) k n e f = go (judge (h .log .records) (signed j d)) refl f
   where
@@ -44,7 +45,7 @@ born h (keyed j d) k n e f = go (judge (h .log .records) (signed j d)) refl f
 
 -- a call whose key is new gets what its deal answers
 fresh-answer : (h : HallState) (k : ℕ) (d : Deed) → Sane h → judge (h .log .records) (signed k d) ≡ fresh → step h (keyed k d) .answer ≡ answered (deal d (h .waiting .bookings) .answer)
-fresh-answer h k d s e = rw (step-served h (keyed k d) s, e)
+fresh-answer h k d s e = rw (step-handled h (keyed k d) s, e)
 
 -- the original among the calls, whose note it is
 record Origin (h : HallState) (cs : List Call) (k : ℕ) (n : KeyRecord) : Type 0 where
@@ -97,7 +98,7 @@ trace h (c ∷ cs) k n s e f = go (lookUp k (step h c .hall .log .records)) refl
           answer = r .answer;
         }
     go (some m) p i =
-        let b : Born h c k m = born h c k m e (rw (step-served h c s) at p) in
+        let b : Born h c k m = born h c k m e (rw (step-handled h c s) at p) in
         let q : lookUp k (after (step h c .hall) cs .log .records) ≡ some m = found-after k m (step h c .hall) cs (sane-step h c s) p in
         let u : m ≡ n = cc in
         subst (Origin h (c ∷ cs) k) u (origin-here h c cs k m s b)
@@ -112,7 +113,7 @@ mark-resend full e = never cc
 mark-resend fresh e = never cc
 
 -- the call behind `pre` has an original there whose key stands for it; it answers as the original did, and leaves the hall
-pub record Again (pre : List Call) (c : Call) : Type 0 where
+pub record Again (sizes : List TeamComposition) (pre : List Call) (c : Call) : Type 0 where
   pub key : ℕ
   pub deed : Deed
   pub first : Deed
@@ -122,76 +123,85 @@ pub record Again (pre : List Call) (c : Call) : Type 0 where
   pub earlier : pre ≡ before ++ (keyed key first ∷ between)
   pub marked : mark (originals [] before) (keyed key first) ≡ original
   pub alike : same (contentOf first) (contentOf deed) ≡ true
-  pub hall : step (after empty pre) c .hall ≡ after empty pre
-  pub answer : step (after empty pre) c .answer ≡ step (after empty before) (keyed key first) .answer
+  pub hall : step (after (empty sizes) pre) c .hall ≡ after (empty sizes) pre
+  pub answer : step (after (empty sizes) pre) c .answer ≡ step (after (empty sizes) before) (keyed key first) .answer
 
--- the original that the note traces to is what a resend needs
-resent-from : (pre : List Call) (k : ℕ) (d : Deed) (a : Outcome (Unit {0})) (o : Old (after empty pre .log .records) (signed k d) a) → Origin empty pre k (o .note) → step (after empty pre) (keyed k d) ≡ record { hall = after empty pre; answer = answered a } → Again pre (keyed k d)
-resent-from pre k d a o b t =
-    record {
-      key = k;
-      deed = d;
-      first = b .deed;
-      before = b .before;
-      between = b .between;
-      call = refl;
-      earlier = b .split;
-      marked = b .first;
-      alike = ap (λ (x : Content). same x (contentOf d)) (sym (b .content)) ∙ o .alike;
-      hall = ap (λ (x : Step). x .hall) t;
-      answer = ap (λ (x : Step). x .answer) t ∙ sym (b .answer a (o .reads));
-    }
+module _ (sizes : List TeamComposition) (small : any sizesOver sizes ≡ false) where
+  -- the hall behind these calls
+  abbrev so-far : List Call → HallState
+  so-far pre = after (empty sizes) pre
 
--- so every resend has its original before it, answers as it did, and leaves the hall
-pub resent : (pre : List Call) (c : Call) → mark (originals [] pre) c ≡ resend → Again pre c
-unfolding seek
-resent pre (round c) e = never cc
-resent pre (no-kind x) e = never cc
-resent pre (keyed k d) e =
-    go (mark-resend (judge (after empty pre .log .records) (signed k d)) (sym (mark-judge (after empty pre .log .records) (signed k d) (sane .readable)) ∙ (rw (grow-after empty pre sane-empty) at e)))
-  where
-    sane : Sane (after empty pre)
-    sane = sane-after empty pre sane-empty
+  -- is sane
+  sane : (pre : List Call) → Sane (so-far pre)
+  sane pre = sane-after (empty sizes) pre (sane-empty sizes small)
 
-    go : (a : Outcome (Unit {0})) × (judge (after empty pre .log .records) (signed k d) ≡ known a) → Again pre (keyed k d)
-    go v =
-        let o : Old (after empty pre .log .records) (signed k d) (v .0) = judge-old _ (signed k d) (v .0) (v .1) in
-        resent-from pre k d (v .0) o (trace empty pre k (o .note) sane-empty refl (o .found)) (known-step (after empty pre) k d (v .0) sane (v .1))
+  -- the original that the note traces to is what a resend needs
+  resent-from : (pre : List Call) (k : ℕ) (d : Deed) (a : Outcome (Unit {0})) (o : Old (so-far pre .log .records) (signed k d) a) → Origin (empty sizes) pre k (o .note) → step (so-far pre) (keyed k d) ≡ record { hall = so-far pre; answer = answered a } → Again sizes pre (keyed k d)
+  resent-from pre k d a o b t =
+      record {
+        key = k;
+        deed = d;
+        first = b .deed;
+        before = b .before;
+        between = b .between;
+        call = refl;
+        earlier = b .split;
+        marked = b .first;
+        alike = ap (λ (x : Content). same x (contentOf d)) (sym (b .content)) ∙ o .alike;
+        hall = ap (λ (x : Step). x .hall) t;
+        answer = ap (λ (x : Step). x .answer) t ∙ sym (b .answer a (o .reads));
+      }
+
+  -- so every resend has its original before it, answers as it did, and leaves the hall
+  pub resent : (pre : List Call) (c : Call) → mark (originals [] pre) c ≡ resend → Again sizes pre c
+  unfolding seek
+  resent pre (round c) e = never cc
+  resent pre (no-kind g x) e = never cc
+  resent pre (keyed k d) e =
+      go (mark-resend (judge (so-far pre .log .records) (signed k d))
+      (sym (mark-judge (so-far pre .log .records) (signed k d) (sane pre .readable)) ∙ (rw (grow-after (empty sizes) pre (sane-empty sizes small)) at e)))
+    where
+      go : (a : Outcome (Unit {0})) × (judge (so-far pre .log .records) (signed k d) ≡ known a) → Again sizes pre (keyed k d)
+      go v =
+          let o : Old (so-far pre .log .records) (signed k d) (v .0) = judge-old _ (signed k d) (v .0) (v .1) in
+          resent-from pre k d (v .0) o (trace (empty sizes) pre k (o .note) (sane-empty sizes small) refl (o .found)) (known-step (so-far pre) k d (v .0) (sane pre) (v .1))
 
 -- ---- who waits, by calls and answers
 
 -- one call moves those who wait as its answer says
-moved-served : (h : HallState) (c : Call) → Sane h →
-    served h c .hall .waiting .bookings ≡ moved (isOriginal (mark (signatures (h .log .records)) c) && taken (served h c .answer)) c (served h c .answer) (h .waiting .bookings)
-moved-served h (no-kind x) s = refl
-moved-served h (round c) s = left h c ∙ ap (λ (ms : List MatchState). withoutGuests (seats ms) (h .waiting .bookings)) (sym (told h c s))
-moved-served h (keyed k (book b)) s = rw (mark-judge (h .log .records) (signed k (book b)) (s .readable)) (go (judge (h .log .records) (signed k (book b))))
+moved-handled : (h : HallState) (c : Call) → Sane h →
+    handled h c .hall .waiting .bookings ≡ moved (h .sizes) (isOriginal (mark (signatures (h .log .records)) c) && taken (handled h c .answer)) c (handled h c .answer) (h .waiting .bookings)
+moved-handled h (no-kind g x) s = refl
+moved-handled h (round c) s = left h c ∙ ap (λ (ms : List MatchState). withoutGuests (seats ms) (h .waiting .bookings)) (sym (told h c s))
+moved-handled h (keyed k (book b)) s = rw (mark-judge (h .log .records) (signed k (book b)) (s .readable)) (go (judge (h .log .records) (signed k (book b))))
   where
     go : (v : Judgement) → (let t : Turn = turn h (signed k (book b)) (deal (book b) (h .waiting .bookings)) v in
-        t .hall .waiting .bookings ≡ moved (isOriginal (toMark v) && taken (answered (t .answer))) (keyed k (book b)) (answered (t .answer)) (h .waiting .bookings))
+        t .hall .waiting .bookings ≡ moved (h .sizes) (isOriginal (toMark v) && taken (answered (t .answer))) (keyed k (book b)) (answered (t .answer)) (h .waiting .bookings))
     go (known a) = refl
     go clash = refl
     go full = refl
     go fresh =
-        book-elim (λ r. r .waiting ≡ moved (taken (answered (r .answer))) (keyed k (book b)) (answered (r .answer)) (h .waiting .bookings)) b (h .waiting .bookings)
+        book-elim (λ r. r .waiting ≡ moved (h .sizes) (taken (answered (r .answer))) (keyed k (book b)) (answered (r .answer)) (h .waiting .bookings)) b (h .waiting .bookings)
         (λ n. refl) (λ m l. refl)
-moved-served h (keyed k (withdraw p)) s = rw (mark-judge (h .log .records) (signed k (withdraw p)) (s .readable)) (go (judge (h .log .records) (signed k (withdraw p))))
+moved-handled h (keyed k (withdraw p)) s = rw (mark-judge (h .log .records) (signed k (withdraw p)) (s .readable)) (go (judge (h .log .records) (signed k (withdraw p))))
   where
     go : (v : Judgement) → (let t : Turn = turn h (signed k (withdraw p)) (deal (withdraw p) (h .waiting .bookings)) v in
-        t .hall .waiting .bookings ≡ moved (isOriginal (toMark v) && taken (answered (t .answer))) (keyed k (withdraw p)) (answered (t .answer)) (h .waiting .bookings))
+        t .hall .waiting .bookings ≡ moved (h .sizes) (isOriginal (toMark v) && taken (answered (t .answer))) (keyed k (withdraw p)) (answered (t .answer)) (h .waiting .bookings))
     go (known a) = refl
     go clash = refl
     go full = refl
     go fresh =
-        withdraw-elim (λ r. r .waiting ≡ moved (taken (answered (r .answer))) (keyed k (withdraw p)) (answered (r .answer)) (h .waiting .bookings)) p (h .waiting .bookings)
+        withdraw-elim (λ r. r .waiting ≡ moved (h .sizes) (taken (answered (r .answer))) (keyed k (withdraw p)) (answered (r .answer)) (h .waiting .bookings)) p (h .waiting .bookings)
         (λ n. refl) (λ m. refl)
 
--- and so does a step
-moved-step : (h : HallState) (c : Call) → Sane h →
-    step h c .hall .waiting .bookings ≡ moved (isOriginal (mark (signatures (h .log .records)) c) && taken (step h c .answer)) c (step h c .answer) (h .waiting .bookings)
-moved-step h c s = rw (step-served h c s) (moved-served h c s)
+-- and so does a step, by the sizes that the hall has
+moved-step : (sizes : List TeamComposition) (h : HallState) (c : Call) → Sane h → h .sizes ≡ sizes →
+    step h c .hall .waiting .bookings ≡ moved sizes (isOriginal (mark (signatures (h .log .records)) c) && taken (step h c .answer)) c (step h c .answer) (h .waiting .bookings)
+moved-step sizes h c s q =
+    subst (λ (z : List TeamComposition). step h c .hall .waiting .bookings ≡ moved z (isOriginal (mark (signatures (h .log .records)) c) && taken (step h c .answer)) c (step h c .answer) (h .waiting .bookings)) q
+    (rw (step-handled h c s) (moved-handled h c s))
 
 -- and so do any calls
-pub replayed : (h : HallState) (cs : List Call) → Sane h → after h cs .waiting .bookings ≡ replay (signatures (h .log .records)) (h .waiting .bookings) cs (answers h cs)
-replayed h [] s = refl
-replayed h (c ∷ cs) s = rw (grow-step h c s, ← moved-step h c s) (replayed (step h c .hall) cs (sane-step h c s))
+pub replayed : (sizes : List TeamComposition) (h : HallState) (cs : List Call) → Sane h → h .sizes ≡ sizes → after h cs .waiting .bookings ≡ replay sizes (signatures (h .log .records)) (h .waiting .bookings) cs (answers h cs)
+replayed sizes h [] s q = refl
+replayed sizes h (c ∷ cs) s q = rw (grow-step h c s, ← moved-step sizes h c s q) (replayed sizes (step h c .hall) cs (sane-step h c s) (sizes-step h c s ∙ q))

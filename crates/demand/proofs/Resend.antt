@@ -11,7 +11,7 @@ use Rattle.hall.specs.Hall.{HallState, KeyRecord, Deed, deal, same, contentOf, 
 use Rattle.demand.specs.Calls.{Call, keyed, round, no-kind, answered, step, after, original, resend, mark}
 use Rattle.demand.proofs.Deals.{read-back}
 use Rattle.demand.proofs.Keys.{judge-fresh, judge-known, signatures, toMark, mark-judge}
-use Rattle.demand.proofs.Orderly.{Sane, served, step-served, sane-step, sane-after, log-stays}
+use Rattle.demand.proofs.Orderly.{Sane, handled, step-handled, sane-step, sane-after, log-stays}
 
 -- an original's key is new
 pub mark-original : (v : Judgement) → toMark v ≡ original → v ≡ fresh
@@ -28,10 +28,10 @@ after-append h (c ∷ cs) ds = after-append (step h c .hall) cs ds
 -- ---- a note that is found is found after any calls
 
 -- by one call
-found-served : (k : ℕ) (n : KeyRecord) (h : HallState) (c : Call) → lookUp k (h .log .records) ≡ some n → lookUp k (served h c .hall .log .records) ≡ some n
-found-served k n h (round c) e = rw (log-stays h c) e
-found-served k n h (no-kind x) e = e
-found-served k n h (keyed j d) e = go (judge (h .log .records) (signed j d))
+found-handled : (k : ℕ) (n : KeyRecord) (h : HallState) (c : Call) → lookUp k (h .log .records) ≡ some n → lookUp k (handled h c .hall .log .records) ≡ some n
+found-handled k n h (round c) e = rw (log-stays h c) e
+found-handled k n h (no-kind g x) e = e
+found-handled k n h (keyed j d) e = go (judge (h .log .records) (signed j d))
   where
     go : (v : Judgement) → lookUp k (turn h (signed j d) (deal d (h .waiting .bookings)) v .hall .log .records) ≡ some n
     go (known a) = e
@@ -42,7 +42,7 @@ found-served k n h (keyed j d) e = go (judge (h .log .records) (signed j d))
 -- by any calls
 pub found-after : (k : ℕ) (n : KeyRecord) (h : HallState) (cs : List Call) → Sane h → lookUp k (h .log .records) ≡ some n → lookUp k (after h cs .log .records) ≡ some n
 found-after k n h [] s e = e
-found-after k n h (c ∷ cs) s e = found-after k n (step h c .hall) cs (sane-step h c s) (rw (step-served h c s) (found-served k n h c e))
+found-after k n h (c ∷ cs) s e = found-after k n (step h c .hall) cs (sane-step h c s) (rw (step-handled h c s) (found-handled k n h c e))
 
 -- ---- the note that an original leaves
 
@@ -50,12 +50,12 @@ found-after k n h (c ∷ cs) s e = found-after k n (step h c .hall) cs (sane-ste
 noted : (h : HallState) (k : ℕ) (d : Deed) → Sane h → judge (h .log .records) (signed k d) ≡ fresh →
     lookUp k (step h (keyed k d) .hall .log .records) ≡ some (recorded (signed k d) (deal d (h .waiting .bookings) .answer))
 noted h k d s e =
-    rw (step-served h (keyed k d) s, e)
+    rw (step-handled h (keyed k d) s, e)
     (found-last (λ r. r .key) (recorded (signed k d) (deal d (h .waiting .bookings) .answer)) (h .log .records) (judge-fresh (h .log .records) (signed k d) e .unnoted))
 
 -- a call that is known leaves the hall, and gets the answer noted
 pub known-step : (h : HallState) (k : ℕ) (d : Deed) (a : Outcome (Unit {0})) → Sane h → judge (h .log .records) (signed k d) ≡ known a → step h (keyed k d) ≡ record { hall = h; answer = answered a }
-known-step h k d a s e = rw (step-served h (keyed k d) s, e)
+known-step h k d a s e = rw (step-handled h (keyed k d) s, e)
 
 -- so a later call with this key, for which it stands, is a resend
 pub named : (h : HallState) (cs : List Call) (k : ℕ) (d e : Deed) → Sane h → mark (signatures (h .log .records)) (keyed k d) ≡ original → same (contentOf d) (contentOf e) ≡ true → mark (signatures (after h (keyed k d ∷ cs) .log .records)) (keyed k e) ≡ resend

@@ -1,10 +1,12 @@
 -- Demand 3 speaks of the functions: whatever they return, call by call, is what the list statement says.
-use mathlib.Core.Path.{_≡_, refl, ap, _∙_}
-use mathlib.Core.List.{List, _∷_}
+use mathlib.Core.Path.{_≡_, refl, sym, ap, _∙_}
+use mathlib.Core.List.{List, _∷_, _++_}
+use Rattle.seating.specs.declared.TeamComposition.{TeamComposition}
 use Rattle.hall.specs.Hall.{HallState, Turn, empty}
 use Rattle.demand.specs.Calls.{Call, Answer, answered, Step, rounded, step, after, answers}
 use Rattle.demand.specs.Runs.{Met, keyed-met, round-met, no-kind-met, Run, ended, called, Told, Kept}
-use Rattle.demand.proofs.Demand.{demand3}
+use Rattle.demand.proofs.Resend.{after-append}
+use Rattle.demand.proofs.Demand.{answers-append, demand3}
 
 -- what a call that met its promise gives is its step
 met-step : (h : HallState) (c : Call) (a : Answer) (k : HallState) → Met h c a k → _≡_ {A = Step} (record { hall = k; answer = a }) (step h c)
@@ -26,6 +28,14 @@ run-told h cs rs l (called {k = k} {c = c} {a = a} {cs = ds} {rs = ts} m r) =
       left = i .left ∙ ap (λ (o : HallState). after o ds) p;
     }
 
+-- calls told up to some hall, and further ones from there on, are told together
+pub told-on : (h k l : HallState) (cs ds : List Call) (rs ts : List Answer) → Told h cs rs k → Told k ds ts l → Told h (cs ++ ds) (rs ++ ts) l
+told-on h k l cs ds rs ts a b =
+    record {
+      answered = (λ j. a .answered j ++ (b .answered ∙ ap (λ (o : HallState). answers o ds) (a .left)) j) ∙ sym (answers-append h cs ds);
+      left = b .left ∙ ap (λ (o : HallState). after o ds) (a .left) ∙ sym (after-append h cs ds);
+    }
+
 -- demand 3 of every run from an empty hall
-pub demand3-of-runs : (calls : List Call) (rs : List Answer) (l : HallState) → Run empty calls rs l → Kept calls rs l
-demand3-of-runs calls rs l r = record { told = run-told empty calls rs l r; demand = demand3 calls }
+pub demand3-of-runs : (sizes : List TeamComposition) (calls : List Call) (rs : List Answer) (l : HallState) → Run (empty sizes) calls rs l → Kept sizes calls rs l
+demand3-of-runs sizes calls rs l r = record { told = run-told (empty sizes) calls rs l r; demand = demand3 sizes calls }

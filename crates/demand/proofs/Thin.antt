@@ -7,15 +7,15 @@ use Rattle.base.proofs.Checks.{both-hold}
 use Rattle.hall.specs.Hall.{HallState, deal, signed, Judgement, known, clash, full, fresh, judge, turn}
 use Rattle.demand.specs.Calls.{Call, keyed, round, no-kind, step, after, answers, growBy, mark, grow, originals, isResend, leave, thin}
 use Rattle.demand.proofs.Keys.{signatureOf, signatures, toMark, mark-judge}
-use Rattle.demand.proofs.Orderly.{Sane, served, step-served, sane-step, log-stays}
+use Rattle.demand.proofs.Orderly.{Sane, handled, step-handled, sane-step, log-stays}
 
 -- ---- the originals so far are those whose notes the key book has
 
 -- a call adds its signature to the originals where it adds its note to the key book
-grow-served : (h : HallState) (c : Call) → Sane h → grow (signatures (h .log .records)) c ≡ signatures (served h c .hall .log .records)
-grow-served h (round c) s = rw (log-stays h c) refl
-grow-served h (no-kind x) s = refl
-grow-served h (keyed k d) s = rw (mark-judge (h .log .records) (signed k d) (s .readable)) (go (judge (h .log .records) (signed k d)))
+grow-handled : (h : HallState) (c : Call) → Sane h → grow (signatures (h .log .records)) c ≡ signatures (handled h c .hall .log .records)
+grow-handled h (round c) s = rw (log-stays h c) refl
+grow-handled h (no-kind g x) s = refl
+grow-handled h (keyed k d) s = rw (mark-judge (h .log .records) (signed k d) (s .readable)) (go (judge (h .log .records) (signed k d)))
   where
     go : (v : Judgement) → growBy (signatures (h .log .records)) (signed k d) (toMark v) ≡ signatures (turn h (signed k d) (deal d (h .waiting .bookings)) v .hall .log .records)
     go (known a) = refl
@@ -25,7 +25,7 @@ grow-served h (keyed k d) s = rw (mark-judge (h .log .records) (signed k d) (s .
 
 -- and so does a step
 pub grow-step : (h : HallState) (c : Call) → Sane h → grow (signatures (h .log .records)) c ≡ signatures (step h c .hall .log .records)
-grow-step h c s = rw (step-served h c s) (grow-served h c s)
+grow-step h c s = rw (step-handled h c s) (grow-handled h c s)
 
 -- and so do any calls
 pub grow-after : (h : HallState) (cs : List Call) → Sane h → originals (signatures (h .log .records)) cs ≡ signatures (after h cs .log .records)
@@ -35,10 +35,10 @@ grow-after h (c ∷ cs) s = rw (grow-step h c s) (grow-after (step h c .hall) cs
 -- ---- a resend leaves the hall
 
 -- a call that is marked a resend changes nothing
-resend-served : (h : HallState) (c : Call) → Sane h → isResend (mark (signatures (h .log .records)) c) ≡ true → served h c .hall ≡ h
-resend-served h (round c) s e = never cc
-resend-served h (no-kind x) s e = never cc
-resend-served h (keyed k d) s e = go (judge (h .log .records) (signed k d)) (rw (mark-judge (h .log .records) (signed k d) (s .readable)) at e)
+resend-handled : (h : HallState) (c : Call) → Sane h → isResend (mark (signatures (h .log .records)) c) ≡ true → handled h c .hall ≡ h
+resend-handled h (round c) s e = never cc
+resend-handled h (no-kind g x) s e = never cc
+resend-handled h (keyed k d) s e = go (judge (h .log .records) (signed k d)) (rw (mark-judge (h .log .records) (signed k d) (s .readable)) at e)
   where
     go : (v : Judgement) → isResend (toMark v) ≡ true → turn h (signed k d) (deal d (h .waiting .bookings)) v .hall ≡ h
     go (known a) q = refl
@@ -48,7 +48,7 @@ resend-served h (keyed k d) s e = go (judge (h .log .records) (signed k d)) (rw 
 
 -- and so does a step
 resend-stays : (h : HallState) (c : Call) → Sane h → isResend (mark (signatures (h .log .records)) c) ≡ true → step h c .hall ≡ h
-resend-stays h c s e = rw (step-served h c s) (resend-served h c s e)
+resend-stays h c s e = rw (step-handled h c s) (resend-handled h c s e)
 
 -- ---- any resends left out: the hall ends alike, and all other calls answer alike
 

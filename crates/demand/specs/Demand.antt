@@ -1,9 +1,11 @@
 -- Demand 3: one statement over every list of calls from an empty hall.
 use Prim.Native.Nat.{ℕ, _+_, _≤_, _<_}
 use mathlib.Core.Path.{_≡_}
-use mathlib.Core.Bool.{Bool, false}
+use mathlib.Core.Bool.{Bool, false, not, _&&_}
 use mathlib.Core.Logic.{_↔_}
 use mathlib.Core.List.{List, [], _∷_, _++_, map}
+use mathlib.Core.Option.{none, some}
+use lib.Dec.{eqb}
 use lib.ListN.{length}
 use Rattle.base.specs.Refusals.{Outcome, refused, gives}
 use Rattle.base.specs.Lists.{member, Distinct}
@@ -11,9 +13,10 @@ use Rattle.seating.specs.declared.TeamComposition.{TeamComposition}
 use Rattle.seating.specs.Seating.{Sheets}
 use Rattle.seating.specs.Seats.{Seating}
 use Rattle.choice.specs.Full.{Terms}
+use Rattle.hall.specs.Games.{isNoGame, noGame, sizesFor, eligible}
 use Rattle.hall.specs.Hall.{HallState, awaiting, entryOf, KeyRecord, logging, empty, Deed}
-use Rattle.hall.specs.Rounds.{RoundCall, full, sizesOf, entriesFor, FullRound}
-use Rattle.demand.specs.Calls.{Call, keyed, round, no-kind, kindOf, playerOf, Answer, answered, handed, step, after, answers, mark, original, resend, originals, leave, thin, keysOf, different, matchesHanded, acceptedIn, withdrawnIn, seatedIn, replay}
+use Rattle.hall.specs.Rounds.{RoundCall, full, of-game, gameOf, sizesIn, entriesIn, FullRound}
+use Rattle.demand.specs.Calls.{Call, keyed, round, no-kind, noKindRefusal, kindOf, playerOf, Answer, answered, handed, step, after, answers, mark, original, resend, originals, leave, thin, keysOf, different, matchesHanded, acceptedIn, withdrawnIn, seatedIn, replay}
 
 -- ---- what holds of the hall at every moment
 
@@ -24,9 +27,11 @@ pub record Orderly (h : HallState) : Type 0 where
   -- nobody waits twice, no key is noted twice
   pub players : Distinct (map (λ b. b .player) (h .waiting .bookings))
   pub keys : Distinct (map (λ r. r .key) (h .log .records))
-  -- within the limits, so that refusal 1 of the hall never comes
+  -- within the limits
   pub few : length (h .waiting .bookings) ≤ 64
   pub noted : length (h .log .records) ≤ 1024
+  -- the last game served is 0 to 7, or none
+  pub last : (isNoGame (h .served) && not (eqb (h .served) noGame)) ≡ false
 
 -- ---- originals and resends
 
@@ -35,42 +40,46 @@ pub record First (pre : List Call) (k : ℕ) : Type 0 where
   pub new : member k (keysOf pre) ≡ false
   pub early : length (different [] (keysOf pre)) < 1024
 
--- the call behind `pre` has an original there; it answers as the original did, and leaves the hall
-pub record Resent (pre : List Call) (c : Call) : Type 0 where
-  pub key : ℕ
-  pub deed : Deed
-  pub first : Deed
-  pub before : List Call
-  pub between : List Call
-  pub call : c ≡ keyed key deed
-  pub earlier : pre ≡ before ++ (keyed key first ∷ between)
-  pub marked : mark (originals [] before) (keyed key first) ≡ original
-  pub kind : kindOf first ≡ kindOf deed
-  pub player : playerOf first ≡ playerOf deed
-  pub hall : step (after empty pre) c .hall ≡ after empty pre
-  pub answer : step (after empty pre) c .answer ≡ step (after empty before) (keyed key first) .answer
+module _ (sizes : List TeamComposition) where
+  -- the call behind `pre` has an original there; it answers as the original did, and leaves the hall
+  pub record Resent (pre : List Call) (c : Call) : Type 0 where
+    pub key : ℕ
+    pub deed : Deed
+    pub first : Deed
+    pub before : List Call
+    pub between : List Call
+    pub call : c ≡ keyed key deed
+    pub earlier : pre ≡ before ++ (keyed key first ∷ between)
+    pub marked : mark (originals [] before) (keyed key first) ≡ original
+    pub kind : kindOf first ≡ kindOf deed
+    pub player : playerOf first ≡ playerOf deed
+    pub hall : step (after (empty sizes) pre) c .hall ≡ after (empty sizes) pre
+    pub answer : step (after (empty sizes) pre) c .answer ≡ step (after (empty sizes) before) (keyed key first) .answer
 
--- the list without the calls named: the hall ends alike, and all other calls answer alike
-pub record Thinned (m : List Bool) (calls : List Call) : Type 0 where
-  pub hall : after empty (thin m calls) ≡ after empty calls
-  pub answers : answers empty (thin m calls) ≡ thin m (answers empty calls)
+  -- the list without the calls named: the hall ends alike, and all other calls answer alike
+  pub record Thinned (m : List Bool) (calls : List Call) : Type 0 where
+    pub hall : after (empty sizes) (thin m calls) ≡ after (empty sizes) calls
+    pub answers : answers (empty sizes) (thin m calls) ≡ thin m (answers (empty sizes) calls)
 
 -- the refusal of a round, or its number of matches
 abbrev pub countGiven : Answer → Outcome ℕ
 countGiven (answered (refused n)) = refused n
 countGiven (answered (gives u)) = gives 0
-countGiven (handed h tried) = h .answer
+countGiven (handed h tried served) = h .answer
 
 -- the first list is the beginning of the second
 pub record Grown (rs ts : List KeyRecord) : Type 0 where
   pub behind : List KeyRecord
   pub split : ts ≡ rs ++ behind
 
-pub record Demand3 (calls : List Call) : Type 0 where
+-- from an empty hall with these sizes, whatever they are
+pub record Demand3 (sizes : List TeamComposition) (calls : List Call) : Type 0 where
   -- each call gets the hall as the one before left it
   pub turns : (pre post : List Call) (c : Call) → calls ≡ pre ++ (c ∷ post) →
-      answers empty calls ≡ answers empty pre ++ (step (after empty pre) c .answer ∷ answers (step (after empty pre) c .hall) post)
-  pub orderly : (pre post : List Call) → calls ≡ pre ++ post → Orderly (after empty pre)
+      answers (empty sizes) calls ≡ answers (empty sizes) pre ++ (step (after (empty sizes) pre) c .answer ∷ answers (step (after (empty sizes) pre) c .hall) post)
+  pub orderly : (pre post : List Call) → calls ≡ pre ++ post → Orderly (after (empty sizes) pre)
+  -- the sizes stay as they were given
+  pub games : (pre post : List Call) → calls ≡ pre ++ post → after (empty sizes) pre .sizes ≡ sizes
   -- an original is the first call with its key, for the first 1,024 different keys
   pub firsts : (pre post : List Call) (k : ℕ) (d : Deed) → calls ≡ pre ++ (keyed k d ∷ post) →
       (mark (originals [] pre) (keyed k d) ≡ original) ↔ First pre k
@@ -79,23 +88,31 @@ pub record Demand3 (calls : List Call) : Type 0 where
       mark (originals [] pre) (keyed k d) ≡ original → kindOf d ≡ kindOf e → playerOf d ≡ playerOf e →
       mark (originals [] (pre ++ (keyed k d ∷ mid))) (keyed k e) ≡ resend
   -- and each resend answers as its original
-  pub resends : (pre post : List Call) (c : Call) → calls ≡ pre ++ (c ∷ post) → mark (originals [] pre) c ≡ resend → Resent pre c
+  pub resends : (pre post : List Call) (c : Call) → calls ≡ pre ++ (c ∷ post) → mark (originals [] pre) c ≡ resend → Resent sizes pre c
   -- any resends left out, all other calls answer alike and the hall ends alike
-  pub thinned : (m : List Bool) → Thinned (leave m [] calls) calls
+  pub thinned : (m : List Bool) → Thinned sizes (leave m [] calls) calls
   -- records only grow
-  pub grows : (pre post : List Call) (c : Call) → calls ≡ pre ++ (c ∷ post) → Grown (after empty pre .log .records) (step (after empty pre) c .hall .log .records)
-  -- accepted = waiting + withdrawn + seated
-  pub sum : acceptedIn [] calls (answers empty calls)
-      ≡ length (after empty calls .waiting .bookings) + (withdrawnIn [] calls (answers empty calls) + seatedIn calls (answers empty calls))
+  pub grows : (pre post : List Call) (c : Call) → calls ≡ pre ++ (c ∷ post) →
+      Grown (after (empty sizes) pre .log .records) (step (after (empty sizes) pre) c .hall .log .records)
+  -- accepted = waiting + withdrawn + seated, over all games
+  pub sum : acceptedIn [] calls (answers (empty sizes) calls)
+      ≡ length (after (empty sizes) calls .waiting .bookings)
+      + (withdrawnIn [] calls (answers (empty sizes) calls) + seatedIn sizes calls (answers (empty sizes) calls))
   -- the bookings of just those who wait stand there, in the order booked
-  pub queue : (pre post : List Call) → calls ≡ pre ++ post → after empty pre .waiting .bookings ≡ replay [] [] pre (answers empty pre)
-  -- each match seats exactly A + B different guests, all waiting just before, none in two matches of the round
+  pub queue : (pre post : List Call) → calls ≡ pre ++ post → after (empty sizes) pre .waiting .bookings ≡ replay sizes [] [] pre (answers (empty sizes) pre)
+  -- each match seats exactly A + B of its game, different guests, all waiting for that game just before, none in two matches of the round
   pub seating : (pre post : List Call) (c : RoundCall) → calls ≡ pre ++ (round c ∷ post) →
-      Seating (sizesOf (c .round)) (map entryOf (after empty pre .waiting .bookings)) (matchesHanded (round c) (step (after empty pre) (round c) .answer))
+      Seating (sizesIn (after (empty sizes) pre) c) (entriesIn (after (empty sizes) pre) c)
+      (matchesHanded sizes (round c) (step (after (empty sizes) pre) (round c) .answer))
+  -- a round of one game leaves the bookings of every other as they are
+  pub others : (pre post : List Call) (c : RoundCall) (g : ℕ) → calls ≡ pre ++ (round c ∷ post) → (gameOf (after (empty sizes) pre) c ≡ some g → ⊥) →
+      eligible g (step (after (empty sizes) pre) (round c) .hall .waiting .bookings) ≡ eligible g (after (empty sizes) pre .waiting .bookings)
   -- a full round not refused hands out a match exactly when some choice passes, and no other passing choice scores higher
-  pub fulls : (pre post : List Call) (s : TeamComposition) (t : Terms) (c : RoundCall) (n : ℕ) → calls ≡ pre ++ (round c ∷ post) →
-      c .round ≡ full s t → countGiven (step (after empty pre) (round c) .answer) ≡ gives n →
-      FullRound t s (entriesFor c (after empty pre .waiting .bookings)) (matchesHanded (round c) (step (after empty pre) (round c) .answer))
-  -- a full round one of whose soft kinds is none answers 1, and leaves the hall and its sheets as they were
-  pub no-kinds : (pre post : List Call) (s : Sheets) → calls ≡ pre ++ (no-kind s ∷ post) →
-      step (after empty pre) (no-kind s) ≡ record { hall = after empty pre; answer = handed (record { answer = refused 1; sheets = s }) 0 }
+  pub fulls : (pre post : List Call) (g : ℕ) (t : Terms) (c : RoundCall) (n : ℕ) → calls ≡ pre ++ (round c ∷ post) →
+      c .round ≡ of-game g (full t) → countGiven (step (after (empty sizes) pre) (round c) .answer) ≡ gives n →
+      FullRound t (sizesFor sizes g) (map entryOf (eligible g (after (empty sizes) pre .waiting .bookings)))
+      (matchesHanded sizes (round c) (step (after (empty sizes) pre) (round c) .answer))
+  -- a full round one of whose soft kinds is none answers 1, or 13, and leaves the hall and its sheets as they were
+  pub no-kinds : (pre post : List Call) (g : ℕ) (s : Sheets) → calls ≡ pre ++ (no-kind g s ∷ post) →
+      step (after (empty sizes) pre) (no-kind g s)
+      ≡ record { hall = after (empty sizes) pre; answer = handed (record { answer = refused (noKindRefusal g); sheets = s }) 0 none }

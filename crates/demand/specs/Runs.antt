@@ -2,17 +2,18 @@
 use Prim.Native.Nat.{ℕ}
 use mathlib.Core.Path.{_≡_}
 use mathlib.Core.List.{List, [], _∷_}
+use Rattle.seating.specs.declared.TeamComposition.{TeamComposition}
 use Rattle.seating.specs.Seating.{Sheets}
 use Rattle.hall.specs.Hall.{HallState, empty, Deed, Turn, keyedRule}
 use Rattle.hall.specs.Rounds.{RoundCall, RoundTurn, roundRule}
-use Rattle.demand.specs.Calls.{Call, keyed, round, no-kind, Answer, answered, handed, turnedAway, after, answers}
+use Rattle.demand.specs.Calls.{Call, keyed, round, no-kind, noKindRefusal, Answer, answered, rounded, turnedAway, after, answers}
 use Rattle.demand.specs.Demand.{Demand3}
 
 -- one call that met its promise: the hall that it got, the hall that it returned, and its answer
 pub data Met : HallState → Call → Answer → HallState → Type 0 where
   keyed-met : {h : HallState} {k : ℕ} {d : Deed} (t : Turn) → t ≡ keyedRule h k d → Met h (keyed k d) (answered (t .answer)) (t .hall)
-  round-met : {h : HallState} {c : RoundCall} (t : RoundTurn) → t ≡ roundRule h c → Met h (round c) (handed (t .handed) (t .tried)) (t .hall)
-  no-kind-met : {h : HallState} {s : Sheets} (t : RoundTurn) → t ≡ turnedAway h s 1 → Met h (no-kind s) (handed (t .handed) (t .tried)) (t .hall)
+  round-met : {h : HallState} {c : RoundCall} (t : RoundTurn) → t ≡ roundRule h c → Met h (round c) (rounded t .answer) (t .hall)
+  no-kind-met : {h : HallState} {g : ℕ} {s : Sheets} (t : RoundTurn) → t ≡ turnedAway h s (noKindRefusal g) → Met h (no-kind g s) (rounded t .answer) (t .hall)
 
 -- a list of such calls: the hall at first, the calls, their answers, the hall at last
 pub data Run : HallState → List Call → List Answer → HallState → Type 0 where
@@ -25,6 +26,6 @@ pub record Told (h : HallState) (cs : List Call) (rs : List Answer) (l : HallSta
   pub left : l ≡ after h cs
 
 -- what is promised of every run from an empty hall
-pub record Kept (calls : List Call) (rs : List Answer) (l : HallState) : Type 0 where
-  pub told : Told empty calls rs l
-  pub demand : Demand3 calls
+pub record Kept (sizes : List TeamComposition) (calls : List Call) (rs : List Answer) (l : HallState) : Type 0 where
+  pub told : Told (empty sizes) calls rs l
+  pub demand : Demand3 sizes calls

@@ -30,11 +30,14 @@ use Rattle.candidate.specs.Choices.{choices, ways}
 use Rattle.candidate.specs.Exhaustive.{exhaustiveMatches}
 use Rattle.choice.specs.Full.{terms, chosen}
 use Rattle.hall.specs.declared.Booking.{Booking}
-use Rattle.hall.specs.Hall.{HallState, same, KeyRecord, hallWith, empty, book, withdraw, bookingAnswer, deal, answerIn, judge}
+use Rattle.hall.specs.Games.{unused, enough, circle}
+use Rattle.hall.specs.Hall.{HallState, awaiting, same, KeyRecord, logging, empty, book, withdraw, bookingAnswer, deal, answerIn, judge}
 use Rattle.hall.specs.Rounds as Rounds
-use Rattle.hall.specs.Rounds.{findings}
+use Rattle.hall.specs.Rounds.{of-game, dispatch, calling, findings}
 use Rattle.demand.specs.Calls as Calls
-use Rattle.demand.specs.Calls.{Call, keyed, Answer, answered, handed, step, after, answers, markOf, leave, thin}
+use Rattle.demand.specs.Calls.{Call, keyed, Answer, answered, handed, step, after, answers, markOf, leave, thin, servedOf}
+use Rattle.demand.specs.Runs.{Told}
+use Rattle.demand.proofs.Runs.{told-on}
 use Rattle.beam.specs.Beam.{expansions, stepped, steps, beamOf, beaming, beamMatches}
 use Rattle.greedy.specs.Greedy.{goesBefore, closer, nearest, filled, anchored, greedyMatches}
 
@@ -118,12 +121,18 @@ coming party player = record { player = player; joined = 0; rating = thousand; p
 abbrev came : ℕ → List QueueEntry
 came party = coming party 1 ∷ coming party 2 ∷ coming 0 3 ∷ []
 
--- a guest of rating 1000 who waits, and the booking under a key
+-- a guest of rating 1000 who waits for a game, or for game 0, and the booking under a key
+abbrev waiterFor : ℕ → ℕ → Booking
+waiterFor game player = record { player = player; joined = 0; rating = thousand; party = 0; role = 0; game = game }
+
 abbrev waiter : ℕ → Booking
-waiter player = record { player = player; joined = 0; rating = thousand; party = 0; role = 0 }
+waiter = waiterFor 0
+
+abbrev bookingFor : ℕ → ℕ → ℕ → Call
+bookingFor game key player = keyed key (book (waiterFor game player))
 
 abbrev booking : ℕ → ℕ → Call
-booking key player = keyed key (book (waiter player))
+booking = bookingFor 0
 
 abbrev withdrawal : ℕ → ℕ → Call
 withdrawal key player = keyed key (withdraw player)
@@ -135,38 +144,121 @@ sheet row blank = row ++ replicate (64 - length row) blank
 abbrev sheets : List ℕ → List Float → Sheets
 sheets players qualities = record { players = sheet players 0; qualities = sheet qualities zero }
 
--- a greedy round 1+1 among guests who are all rated 1000, and its answer: one match
-abbrev pairing : Call
-pairing =
-    Calls.round
-    (record {
-      round = Rounds.greedy (sizes 1 1) (ofRatings (1 ∷ 2 ∷ 3 ∷ 4 ∷ []) (replicate 4 thousand));
-      clock = 0;
-      sheets = sheets [] [];
-    })
-
-abbrev paired : ℕ → ℕ → Answer
-paired p q = handed (record { answer = gives 1; sheets = sheets (p ∷ q ∷ []) (one ∷ []) }) 0
-
+-- the answer of a keyed call that is accepted
 abbrev accepted : Answer
 accepted = answered (gives tt)
 
--- a full round 1+1 by the wait objective only, and its answer: one match, of quality 0.0, after so many choices
-abbrev choosing : Call
-choosing =
+-- the answer of a round that hands out so many matches: what it wrote, how many choices it tried, and the game that it served
+abbrev handing : ℕ → List ℕ → List Float → ℕ → Option ℕ → Answer
+handing n players qualities tried served = handed (record { answer = gives n; sheets = sheets players qualities }) tried served
+
+-- game 0 is of 1+1, and the others are not used
+abbrev oneGame : List TeamComposition
+oneGame = sizes 1 1 ∷ replicate 7 unused
+
+-- games 0 and 3 are of 1+1, game 5 is of 0+1, and the others are not used
+abbrev threeGames : List TeamComposition
+threeGames = sizes 1 1 ∷ unused ∷ unused ∷ sizes 1 1 ∷ unused ∷ sizes 0 1 ∷ unused ∷ unused ∷ []
+
+-- eight games of one guest each
+abbrev soloGames : List TeamComposition
+soloGames = replicate 8 (sizes 1 0)
+
+-- a greedy round of game 0 among guests who are all rated 1000, and its answer: one match
+abbrev pairing : Call
+pairing =
+    Calls.round (calling (of-game 0 (Rounds.greedy (ofRatings (1 ∷ 2 ∷ 3 ∷ 4 ∷ []) (replicate 4 thousand)))) 0 (sheet [] 0) (sheet [] zero))
+
+abbrev pairedIn : Option ℕ → ℕ → ℕ → Answer
+pairedIn served p q = handing 1 (p ∷ q ∷ []) (one ∷ []) 0 served
+
+abbrev paired : ℕ → ℕ → Answer
+paired = pairedIn none
+
+-- a dispatch among such guests
+abbrev dispatching : Call
+dispatching =
+    Calls.round (calling (dispatch (ofRatings (1 ∷ 2 ∷ 3 ∷ 4 ∷ 5 ∷ 6 ∷ []) (replicate 6 thousand))) 0 (sheet [] 0) (sheet [] zero))
+
+-- a full round of a game by the wait objective only, and its answer: one match, of quality 0.0, after so many choices
+abbrev choosingFor : ℕ → Call
+choosingFor game =
     Calls.round
-    (record {
-      round = Rounds.full (sizes 1 1) (terms (record { ids = 1 ∷ 2 ∷ 3 ∷ []; ratings = replicate 3 thousand; deviations = []; parties = replicate 3 0; roles = replicate 3 0; regions = replicate 3 4 }) unconstrained false (Wait one ∷ []) 1);
-      clock = 0;
-      sheets = sheets [] [];
-    })
+    (calling
+    (of-game game
+    (Rounds.full
+    (terms (record { ids = 1 ∷ 2 ∷ 3 ∷ []; ratings = replicate 3 thousand; deviations = []; parties = replicate 3 0; roles = replicate 3 0; regions = replicate 3 4 }) unconstrained false (Wait one ∷ []) 1)))
+    0 (sheet [] 0) (sheet [] zero))
 
-abbrev chose : ℕ → ℕ → ℕ → Answer
-chose p q n = handed (record { answer = gives 1; sheets = sheets (p ∷ q ∷ []) (zero ∷ []) }) n
+abbrev chose : List ℕ → ℕ → Answer
+chose players n = handing 1 players (zero ∷ []) n none
 
--- the note of a call that was accepted: key, kind and guest
+-- the refusal of a round, which writes nothing
+abbrev turnedDown : ℕ → Answer
+turnedDown n = handed (record { answer = refused n; sheets = sheets [] [] }) 0 none
+
+-- the note of a call: answer, key, kind and guest; or of one that was accepted
+abbrev notedAs : ℕ → ℕ → ℕ → ℕ → KeyRecord
+notedAs answer key kind player = record { key = key; content = record { kind = kind; player = player }; answer = answer }
+
 abbrev noted : ℕ → ℕ → ℕ → KeyRecord
-noted key kind player = record { key = key; content = record { kind = kind; player = player }; answer = 0 }
+noted = notedAs 0
+
+-- the hall with these sizes, this last game served, these bookings and these notes
+abbrev leaving : List TeamComposition → ℕ → List Booking → List KeyRecord → HallState
+leaving sizes served ws rs = record { waiting = awaiting ws; log = logging rs; sizes = sizes; served = served }
+
+-- the story of a phone that resends two bookings after a withdrawal and a round, in two parts: up to the round, and from there on
+abbrev phoning : List Call
+phoning = booking 1 1 ∷ booking 2 2 ∷ booking 3 3 ∷ withdrawal 4 3 ∷ pairing ∷ []
+
+abbrev phoningOn : List Call
+phoningOn = booking 1 1 ∷ booking 3 3 ∷ booking 5 1 ∷ booking 6 4 ∷ pairing ∷ []
+
+-- what each of these calls answers, and the hall in between and at the end
+abbrev phoned : List Answer
+phoned = accepted ∷ accepted ∷ accepted ∷ accepted ∷ paired 1 2 ∷ []
+
+abbrev phonedOn : List Answer
+phonedOn = accepted ∷ accepted ∷ accepted ∷ accepted ∷ paired 1 4 ∷ []
+
+abbrev phonedHall : HallState
+phonedHall = leaving oneGame 255 [] (noted 1 0 1 ∷ noted 2 0 2 ∷ noted 3 0 3 ∷ noted 4 1 3 ∷ [])
+
+abbrev phonedEnd : HallState
+phonedEnd = leaving oneGame 255 [] (noted 1 0 1 ∷ noted 2 0 2 ∷ noted 3 0 3 ∷ noted 4 1 3 ∷ noted 5 0 1 ∷ noted 6 0 4 ∷ [])
+
+-- which of the calls of the second part are resends
+abbrev phoneAgain : List Bool
+phoneAgain = true ∷ true ∷ false ∷ false ∷ false ∷ []
+
+-- the story of two games in their turn, in three parts: though game 0 has enough again, game 3 is served before it
+abbrev circling : List Call
+circling = bookingFor 3 1 1 ∷ bookingFor 3 2 2 ∷ booking 3 3 ∷ booking 4 4 ∷ dispatching ∷ []
+
+abbrev circlingOn : List Call
+circlingOn = booking 5 5 ∷ booking 6 6 ∷ dispatching ∷ []
+
+abbrev circlingLast : List Call
+circlingLast = dispatching ∷ dispatching ∷ []
+
+abbrev circled : List Answer
+circled = accepted ∷ accepted ∷ accepted ∷ accepted ∷ pairedIn (some 0) 3 4 ∷ []
+
+abbrev circledOn : List Answer
+circledOn = accepted ∷ accepted ∷ pairedIn (some 3) 1 2 ∷ []
+
+abbrev circledLast : List Answer
+circledLast = pairedIn (some 0) 5 6 ∷ handing 0 [] [] 0 none ∷ []
+
+abbrev circledHall : HallState
+circledHall = leaving threeGames 0 (waiterFor 3 1 ∷ waiterFor 3 2 ∷ []) (noted 1 0 1 ∷ noted 2 0 2 ∷ noted 3 0 3 ∷ noted 4 0 4 ∷ [])
+
+abbrev circledHallOn : HallState
+circledHallOn = leaving threeGames 3 (waiter 5 ∷ waiter 6 ∷ []) (noted 1 0 1 ∷ noted 2 0 2 ∷ noted 3 0 3 ∷ noted 4 0 4 ∷ noted 5 0 5 ∷ noted 6 0 6 ∷ [])
+
+abbrev circledEnd : HallState
+circledEnd = leaving threeGames 0 [] (noted 1 0 1 ∷ noted 2 0 2 ∷ noted 3 0 3 ∷ noted 4 0 4 ∷ noted 5 0 5 ∷ noted 6 0 6 ∷ [])
 
 -- which calls of a list are resends
 abbrev resends : List Call → List Bool
@@ -188,10 +280,14 @@ pub data Line : Type 0 where
   -- a full round's choice 1+1 by the wait objective only of those who came with this party, parties brought or not, waiting friends
   -- brought or not: the match, if there is one
   atHome : ℕ → Bool → Bool → Option MatchState → Line
-  -- keyed calls from an empty hall: what each answers, and how many wait at the end
+  -- keyed calls from an empty hall of one game: what each answers, and how many wait at the end
   calls : List Call → List (Outcome (Unit {0})) → ℕ → Line
-  -- calls from an empty hall: which of them are resends, what each answers, and the hall at the end
-  story : List Call → List Bool → List Answer → HallState → Line
+  -- calls from an empty hall with these sizes: which of them are resends, what each answers, and the hall at the end
+  story : List TeamComposition → List Call → List Bool → List Answer → HallState → Line
+  -- the games in their turn after the last one served
+  turns : ℕ → List ℕ → Line
+  -- calls from an empty hall with these sizes, and dispatches behind them: which game each of these serves
+  serves : List TeamComposition → List Call → List Call → List (Option ℕ) → Line
   -- the entry picked for a reference rating
   pick : Float → List QueueEntry → QueueEntry → Line
 
@@ -204,8 +300,10 @@ Holds (beam s width o) = beamMatches (beaming s width byQuality rostered guests 
 Holds (exhaustive s queue ms) = exhaustiveMatches s queue ≡ ms
 Holds (full s queue os m n) = chosen (terms rostered unconstrained false os (length os)) s queue ≡ gives (record { best = some m; tried = n })
 Holds (atHome party parties friends best) = chosen (terms household (constrained parties) friends (Wait one ∷ []) 1) (sizes 1 1) (came party) ≡ gives (record { best = best; tried = 3 })
-Holds (calls cs os n) = (answers empty cs ≡ map answered os) × (length (after empty cs .waiting .bookings) ≡ n)
-Holds (story cs rs os h) = (resends cs ≡ rs) × ((answers empty cs ≡ os) × ((after empty cs ≡ h) × ((answers empty (thin rs cs) ≡ thin rs os) × (after empty (thin rs cs) ≡ h))))
+Holds (calls cs os n) = (answers (empty oneGame) cs ≡ map answered os) × (length (after (empty oneGame) cs .waiting .bookings) ≡ n)
+Holds (story sizes cs rs os h) = (resends cs ≡ rs) × (Told (empty sizes) cs os h × Told (empty sizes) (thin rs cs) (thin rs os) h)
+Holds (turns last games) = circle last ≡ games
+Holds (serves sizes cs ds os) = map servedOf (answers (after (empty sizes) cs) ds) ≡ os
 Holds (pick reference queue e) = nearest reference [] queue ≡ some e
 
 -- "Differences 0, 100, 400, NaN: 1.0, 0.75, 0.0, 0.0." "Equal vectors do not dominate." "Greedy 2+2: A {1, 4}, B {3, 2}, quality
@@ -217,8 +315,12 @@ Holds (pick reference queue e) = nearest reference [] queue ≡ some e
 -- 990 joined earlier it goes first; a nearer one goes first whenever it joined; a rating of NaN or infinity never.
 -- Document 02, 2.3: a friend who never came blocks his party by the party kind, and not by waiting friends, which go by the entries alone.
 -- The beam of width 4 is no line of the paper, but tells wrong turns apart. Nor is
--- the story: a phone resends two bookings after a withdrawal and a round, among guests who are rated alike. Each gets the answer that
--- it got, nobody waits for it, and no table is played one short; without the resends all else is the same.
+-- the story of the phone, among guests who are rated alike: each resend gets the answer that it got, nobody waits for it, and no table is
+-- played one short; without the resends all else is the same.
+-- Document 02, 2.4: "the first dispatch begins at game 0", and the last game served comes eighth: it is served again only behind the
+-- others. A game of 0+1 is served and forms nothing. Eight games that all have enough take eight dispatches, so fewer are not enough for
+-- the last of them. Refusal 13 of a booking is noted, and its resend gets it; 9 looks at all games. An unused game takes
+-- bookings, and its full round hands out the empty match, one choice tried; a round of no game gets 13.
 abbrev pub lines : List Line
 lines =
     difference zero one
@@ -235,20 +337,20 @@ lines =
     ∷ exhaustive (sizes 2 2) guests (lineup (1 ∷ 2 ∷ []) (3 ∷ 4 ∷ []) ∷ [])
     ∷ exhaustive (sizes 1 1) (take 3 guests) (pair 1 2 ∷ pair 1 3 ∷ pair 2 3 ∷ [])
     ∷ full (sizes 1 1) (take 3 guests) (Wait one ∷ []) (pair 2 3) 3
-    ∷ story
-    (booking 1 1 ∷ booking 2 2 ∷ booking 3 3 ∷ choosing ∷ [])
+    ∷ story oneGame
+    (booking 1 1 ∷ booking 2 2 ∷ booking 3 3 ∷ choosingFor 0 ∷ [])
     (false ∷ false ∷ false ∷ false ∷ [])
-    (accepted ∷ accepted ∷ accepted ∷ chose 2 3 3 ∷ [])
-    (hallWith (waiter 1 ∷ []) (noted 1 0 1 ∷ noted 2 0 2 ∷ noted 3 0 3 ∷ []))
+    (accepted ∷ accepted ∷ accepted ∷ chose (2 ∷ 3 ∷ []) 3 ∷ [])
+    (leaving oneGame 255 (waiter 1 ∷ []) (noted 1 0 1 ∷ noted 2 0 2 ∷ noted 3 0 3 ∷ []))
     ∷ calls (booking 7 1 ∷ []) (gives tt ∷ []) 1
     ∷ calls (booking 7 1 ∷ booking 7 1 ∷ []) (gives tt ∷ gives tt ∷ []) 1
     ∷ calls (booking 7 1 ∷ booking 7 2 ∷ []) (gives tt ∷ refused 7 ∷ []) 1
     ∷ calls (booking 7 1 ∷ booking 8 1 ∷ []) (gives tt ∷ refused 9 ∷ []) 1
-    ∷ story
-    (booking 1 1 ∷ booking 2 2 ∷ booking 3 3 ∷ withdrawal 4 3 ∷ pairing ∷ booking 1 1 ∷ booking 3 3 ∷ booking 5 1 ∷ booking 6 4 ∷ pairing ∷ [])
-    (false ∷ false ∷ false ∷ false ∷ false ∷ true ∷ true ∷ false ∷ false ∷ false ∷ [])
-    (accepted ∷ accepted ∷ accepted ∷ accepted ∷ paired 1 2 ∷ accepted ∷ accepted ∷ accepted ∷ accepted ∷ paired 1 4 ∷ [])
-    (hallWith [] (noted 1 0 1 ∷ noted 2 0 2 ∷ noted 3 0 3 ∷ noted 4 1 3 ∷ noted 5 0 1 ∷ noted 6 0 4 ∷ []))
+    ∷ story oneGame
+    (phoning ++ phoningOn)
+    (replicate 5 false ++ phoneAgain)
+    (phoned ++ phonedOn)
+    phonedEnd
     ∷ pick thousand (entry 1 r1010 ∷ entry 2 r990 ∷ []) (entry 1 r1010)
     ∷ pick thousand (joining 5 1 r1010 ∷ joining 3 2 r990 ∷ []) (joining 3 2 r990)
     ∷ pick thousand (joining 3 1 r1010 ∷ joining 5 2 thousand ∷ []) (joining 5 2 thousand)
@@ -258,8 +360,51 @@ lines =
     ∷ atHome 7 false true (some (pair 1 2))
     ∷ atHome 7 true true none
     ∷ atHome 0 false true (some (pair 2 3))
+    ∷ turns 255 (0 ∷ 1 ∷ 2 ∷ 3 ∷ 4 ∷ 5 ∷ 6 ∷ 7 ∷ [])
+    ∷ turns 3 (4 ∷ 5 ∷ 6 ∷ 7 ∷ 0 ∷ 1 ∷ 2 ∷ 3 ∷ [])
+    ∷ story threeGames
+    (circling ++ (circlingOn ++ circlingLast))
+    (replicate 10 false)
+    (circled ++ (circledOn ++ circledLast))
+    circledEnd
+    ∷ story threeGames
+    (bookingFor 5 1 1 ∷ dispatching ∷ [])
+    (false ∷ false ∷ [])
+    (accepted ∷ handing 0 [] [] 0 (some 5) ∷ [])
+    (leaving threeGames 5 (waiterFor 5 1 ∷ []) (noted 1 0 1 ∷ []))
+    ∷ serves soloGames
+    (bookingFor 0 10 1 ∷ bookingFor 1 11 2 ∷ bookingFor 2 12 3 ∷ bookingFor 3 13 4 ∷ bookingFor 4 14 5 ∷ bookingFor 5 15 6 ∷ bookingFor 6 16 7 ∷ bookingFor 7 17 8 ∷ [])
+    (replicate 9 dispatching)
+    (some 0 ∷ some 1 ∷ some 2 ∷ some 3 ∷ some 4 ∷ some 5 ∷ some 6 ∷ some 7 ∷ none ∷ [])
+    ∷ story oneGame
+    (bookingFor 8 1 1 ∷ bookingFor 8 1 1 ∷ booking 1 2 ∷ booking 2 1 ∷ [])
+    (false ∷ true ∷ false ∷ false ∷ [])
+    (answered (refused 13) ∷ answered (refused 13) ∷ answered (refused 7) ∷ accepted ∷ [])
+    (leaving oneGame 255 (waiter 1 ∷ []) (notedAs 13 1 0 1 ∷ noted 2 0 1 ∷ []))
+    ∷ calls (booking 7 1 ∷ bookingFor 3 8 1 ∷ []) (gives tt ∷ refused 9 ∷ []) 1
+    ∷ story oneGame
+    (bookingFor 4 1 1 ∷ choosingFor 4 ∷ choosingFor 8 ∷ [])
+    (false ∷ false ∷ false ∷ [])
+    (accepted ∷ chose [] 1 ∷ turnedDown 13 ∷ [])
+    (leaving oneGame 255 (waiterFor 4 1 ∷ []) (noted 1 0 1 ∷ []))
     ∷ []
 
+-- the two stories, told part by part: each part reckons from a hall that is written out
+phone-told : Told (empty oneGame) (phoning ++ phoningOn) (phoned ++ phonedOn) phonedEnd
+unfolding qualityAt absOf minOf dominatesOf anyBelow seek keep partySeated observe observations averageFrom goesBefore closer grown filled anchored insertBy expansions stepped steps beamOf seats secondsOf longer scoreFrom choices ways enough findings step judge bookingAnswer deal same answerIn markOf removeFirst distinct weighted latencyAt mul add div sub lt le eq ne isNan ofInt ofBits round
+phone-told = told-on (empty oneGame) phonedHall phonedEnd phoning phoningOn phoned phonedOn (record { answered = refl; left = refl }) (record { answered = refl; left = refl })
+
+-- and without the resends
+phone-thinned : Told (empty oneGame) (phoning ++ thin phoneAgain phoningOn) (phoned ++ thin phoneAgain phonedOn) phonedEnd
+unfolding qualityAt absOf minOf dominatesOf anyBelow seek keep partySeated observe observations averageFrom goesBefore closer grown filled anchored insertBy expansions stepped steps beamOf seats secondsOf longer scoreFrom choices ways enough findings step judge bookingAnswer deal same answerIn markOf removeFirst distinct weighted latencyAt mul add div sub lt le eq ne isNan ofInt ofBits round
+phone-thinned = told-on (empty oneGame) phonedHall phonedEnd phoning (thin phoneAgain phoningOn) phoned (thin phoneAgain phonedOn) (record { answered = refl; left = refl }) (record { answered = refl; left = refl })
+
+circle-told : Told (empty threeGames) (circling ++ (circlingOn ++ circlingLast)) (circled ++ (circledOn ++ circledLast)) circledEnd
+unfolding qualityAt absOf minOf dominatesOf anyBelow seek keep partySeated observe observations averageFrom goesBefore closer grown filled anchored insertBy expansions stepped steps beamOf seats secondsOf longer scoreFrom choices ways enough findings step judge bookingAnswer deal same answerIn markOf removeFirst distinct weighted latencyAt mul add div sub lt le eq ne isNan ofInt ofBits round
+circle-told =
+    told-on (empty threeGames) circledHall circledEnd circling (circlingOn ++ circlingLast) circled (circledOn ++ circledLast) (record { answered = refl; left = refl })
+    (told-on circledHall circledHallOn circledEnd circlingOn circlingLast circledOn circledLast (record { answered = refl; left = refl }) (record { answered = refl; left = refl }))
+
 pub at-the-table : All Holds lines
-unfolding qualityAt absOf minOf dominatesOf anyBelow seek keep partySeated observe observations averageFrom goesBefore closer grown filled anchored insertBy expansions stepped steps beamOf seats secondsOf longer scoreFrom choices ways findings step judge bookingAnswer deal same answerIn markOf removeFirst distinct weighted latencyAt mul add div sub lt le eq ne isNan ofInt ofBits round
-at-the-table = (refl, (refl, (refl, (refl, (refl, (refl, ((refl, refl), ((refl, refl), (refl, (refl, (refl, (refl, (refl, (refl, ((refl, (refl, (refl, (refl, refl)))), ((refl, refl), ((refl, refl), ((refl, refl), ((refl, refl), ((refl, (refl, (refl, (refl, refl)))), (refl, (refl, (refl, (refl, (refl, (refl, (refl, (refl, (refl, tt)))))))))))))))))))))))))))))
+unfolding qualityAt absOf minOf dominatesOf anyBelow seek keep partySeated observe observations averageFrom goesBefore closer grown filled anchored insertBy expansions stepped steps beamOf seats secondsOf longer scoreFrom choices ways enough findings step judge bookingAnswer deal same answerIn markOf removeFirst distinct weighted latencyAt mul add div sub lt le eq ne isNan ofInt ofBits round
+at-the-table = (refl, (refl, (refl, (refl, (refl, (refl, ((refl, refl), ((refl, refl), (refl, (refl, (refl, (refl, (refl, (refl, ((refl, (record { answered = refl; left = refl }, record { answered = refl; left = refl })), ((refl, refl), ((refl, refl), ((refl, refl), ((refl, refl), ((refl, (phone-told, phone-thinned)), (refl, (refl, (refl, (refl, (refl, (refl, (refl, (refl, (refl, (refl, (refl, ((refl, (circle-told, circle-told)), ((refl, (record { answered = refl; left = refl }, record { answered = refl; left = refl })), (refl, ((refl, (record { answered = refl; left = refl }, record { answered = refl; left = refl })), ((refl, refl), ((refl, (record { answered = refl; left = refl }, record { answered = refl; left = refl })), tt)))))))))))))))))))))))))))))))))))))

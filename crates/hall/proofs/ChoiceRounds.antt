@@ -1,7 +1,7 @@
 -- Laws of the full round over plain lists: its check, its choice, and the choice on the sheets.
 use Prim.Native.Nat.{ℕ, _*_, _≤_}
 use mathlib.Core.Path.{_≡_, refl, sym, ap, _∙_}
-use mathlib.Core.Bool.{Bool, true, false, cond, _||_}
+use mathlib.Core.Bool.{Bool, true, false, cond}
 use mathlib.Core.List.{List, [], _∷_, _++_, map, append-nil}
 use mathlib.Core.Option.{none, some}
 use native.Mathlib.Nat.{not-suc-le-zero}
@@ -20,6 +20,7 @@ use Rattle.base.proofs.Cases.{never}
 use Rattle.base.proofs.Checks.{neither}
 use Rattle.queue.specs.Time.{timeOver}
 use Rattle.queue.specs.Queue.{QueueState, holding}
+use Rattle.queue.specs.declared.QueueEntry.{QueueEntry}
 use Rattle.roster.specs.Roster.{Roster}
 use Rattle.matchmaker.specs.Quality.{MatchState, seated}
 use Rattle.objective.specs.declared.soft.SoftObjective.{SoftObjective}
@@ -30,11 +31,13 @@ use Rattle.seating.specs.Steps.{overlaid}
 use Rattle.seating.proofs.Laws.{overlaid-fits}
 use Rattle.candidate.specs.Exhaustive.{tooWide}
 use Rattle.choice.specs.Full.{Terms, Selection, terms, termsCheck, chosen, choiceRule}
+use Rattle.hall.specs.Games.{eligible}
 use Rattle.hall.specs.Hall.{hasTimeOver, entryOf}
-use Rattle.hall.specs.Rounds.{full, RoundCall, calling, selected, findings}
-use Rattle.hall.specs.Steps.{sheetsAndClockCheck, HandedNumbers, FoundNumbers}
+use Rattle.hall.specs.Rounds.{full, selected, findings}
+use Rattle.hall.specs.Steps.{clockAmong, sheetsAndClockCheck, HandedNumbers, FoundNumbers}
 use Rattle.hall.specs.declared.Booking.{Booking}
 use Rattle.hall.specs.declared.rounds.Handed.{Handed}
+use Rattle.hall.proofs.WaitLaws.{clock-over, own-over}
 use Rattle.hall.proofs.RoundLaws.{refusing, handed-refused, handed-given, entries-fit, entries-over}
 
 -- ---- the check of the sheets and the clock
@@ -89,56 +92,56 @@ seated-most x y l m e f = omega (arith, length-append (take l x) (take m y), len
 -- ---- the checks of the round
 
 -- refused for its sheets or its clock: the refusal is that of the terms, or else this
-stopped : (o : Outcome Unit) (sh lc le wide : Bool) (v : Outcome Selection) {n m : ℕ} → _≡_ {A = Outcome Unit} (refused n) (cond sh (refused 3) (cond lc (refused 4) (gives tt))) → _≡_ {A = Outcome Unit} (refused m) (guarded o (refused n)) →
-    guarded (guarded o (cond sh (refused 3) (cond (lc || le) (refused 4) (cond wide (refused 6) (gives tt))))) (selected v) ≡ refused m
-stopped (refused i) sh lc le wide v e g = cc
-stopped (gives u) true lc le wide v e g = cc
-stopped (gives u) false true le wide v e g = cc
-stopped (gives u) false false le wide v e g = never cc
+stopped : (o : Outcome Unit) (sh late wide : Bool) (v : Outcome Selection) {n m : ℕ} → _≡_ {A = Outcome Unit} (refused n) (cond sh (refused 3) (cond late (refused 4) (gives tt))) → _≡_ {A = Outcome Unit} (refused m) (guarded o (refused n)) →
+    guarded (guarded o (cond sh (refused 3) (cond late (refused 4) (cond wide (refused 6) (gives tt))))) (selected v) ≡ refused m
+stopped (refused i) sh late wide v e g = cc
+stopped (gives u) true late wide v e g = cc
+stopped (gives u) false true wide v e g = cc
+stopped (gives u) false false wide v e g = never cc
 
 -- not refused for these: the choice's own checks are those of the round
-unstopped : (w : Bool) (o : Outcome Unit) (sh lc le wide : Bool) (v : Outcome Selection) → w ≡ false → _≡_ {A = Outcome Unit} (gives tt) (cond sh (refused 3) (cond lc (refused 4) (gives tt))) →
-    guarded (guarded o (cond sh (refused 3) (cond (lc || le) (refused 4) (cond wide (refused 6) (gives tt))))) (selected v)
-    ≡ selected (guarded (cond w (refused 1) (guarded o (cond le (refused 4) (cond wide (refused 6) (gives tt))))) v)
-unstopped true o sh lc le wide v e p = never cc
-unstopped false o true lc le wide v e p = never cc
-unstopped false o false true le wide v e p = never cc
-unstopped false (refused n) false false le wide v e p = refl
-unstopped false (gives u) false false true wide v e p = refl
-unstopped false (gives u) false false false true v e p = refl
-unstopped false (gives u) false false false false v e p = refl
+unstopped : (w : Bool) (o : Outcome Unit) (sh late own wide : Bool) (v : Outcome Selection) → w ≡ false → (own ≡ true → late ≡ true) → _≡_ {A = Outcome Unit} (gives tt) (cond sh (refused 3) (cond late (refused 4) (gives tt))) →
+    guarded (guarded o (cond sh (refused 3) (cond late (refused 4) (cond wide (refused 6) (gives tt))))) (selected v)
+    ≡ selected (guarded (cond w (refused 1) (guarded o (cond own (refused 4) (cond wide (refused 6) (gives tt))))) v)
+unstopped true o sh late own wide v e f p = never cc
+unstopped false o true late own wide v e f p = never cc
+unstopped false o false true own wide v e f p = never cc
+unstopped false (refused n) false false own wide v e f p = refl
+unstopped false (gives u) false false true wide v e f p = never (let z : false ≡ true = f refl in cc)
+unstopped false (gives u) false false false true v e f p = refl
+unstopped false (gives u) false false false false v e f p = refl
 
-module _ (s : TeamComposition) (c : Constraints) (friends : Bool) (objectives : List SoftObjective) (count : ℕ) (r : Roster) (clock : ℕ) (sheets : Sheets) (ws : List Booking) (few : length ws ≤ 64) where
-  -- the terms and the call
+module _ (s : TeamComposition) (c : Constraints) (friends : Bool) (objectives : List SoftObjective) (count : ℕ) (r : Roster) (clock : ℕ) (sheets : Sheets) (g : ℕ) (ws : List Booking) (few : length ws ≤ 64) {at : ℕ} (heard : at ≡ clockAmong clock ws) where
+  -- the terms, the numbers to be shown and the queue
   abbrev given : Terms
   given = terms r c friends objectives count
 
-  abbrev call : RoundCall
-  call = calling (full s given) clock (sheets .players) (sheets .qualities)
+  abbrev Full : Handed → List ℕ → List Float → Type 0
+  Full = FoundNumbers (full given) clock sheets s g ws
 
-  abbrev queue : QueueState
-  queue = holding (map entryOf ws)
+  abbrev own : List QueueEntry
+  own = map entryOf (eligible g ws)
 
-  module _ (k : Checked) (checked : checkedOf k ≡ sheetsAndClockCheck clock (length (sheets .players)) (length (sheets .qualities))) where
+  module _ (k : Checked) (checked : checkedOf k ≡ sheetsAndClockCheck at (length (sheets .players)) (length (sheets .qualities))) where
     -- the check refuses: the answer is the terms' refusal, or else the check's
-    pub full-refused : (x : Refusal) → k ≡ Refused x → (y : Refusal) → checkedOf (Refused y) ≡ guarded (termsCheck r c count s) (checkedOf (Refused x)) → {h : Handed} → h ≡ refusing y → FoundNumbers call ws h (sheets .players) (sheets .qualities)
+    pub full-refused : (x : Refusal) → k ≡ Refused x → (y : Refusal) → checkedOf (Refused y) ≡ guarded (termsCheck r c count s) (checkedOf (Refused x)) → {h : Handed} → h ≡ refusing y → Full h (sheets .players) (sheets .qualities)
     unfolding findings
-    full-refused x e y f g =
+    full-refused x e y f i =
         let z =
-        stopped (termsCheck r c count s) (areShort (length (sheets .players)) (length (sheets .qualities))) (timeOver clock) (any hasTimeOver ws) (tooWide (map entryOf ws)) (chosen given s (map entryOf ws))
-        (sym (ap checkedOf e) ∙ checked) f in
-        handed-refused quality sheets y z g
+        stopped (termsCheck r c count s) (areShort (length (sheets .players)) (length (sheets .qualities))) (timeOver (clockAmong clock ws)) (tooWide own) (chosen given s own)
+        (rw heard at (sym (ap checkedOf e) ∙ checked)) f in
+        handed-refused quality sheets y (rw (← clock-over clock ws) z) i
 
     -- the check passes: what is found is the choice
-    full-found : k ≡ Passed → findings call ws ≡ selected (choiceRule given s queue)
+    full-found : k ≡ Passed → findings (full given) clock sheets s own ws ≡ selected (choiceRule given s (holding own))
     unfolding findings
     full-found e =
-        rw (entries-over ws)
-        (unstopped (ltb 64 (length (map entryOf ws))) (termsCheck r c count s)
-        (areShort (length (sheets .players)) (length (sheets .qualities))) (timeOver clock) (any hasTimeOver ws) (tooWide (map entryOf ws)) (chosen given s (map entryOf ws)) (entries-fit ws few) (sym (ap checkedOf e) ∙ checked))
+        rw (entries-over (eligible g ws), ← clock-over clock ws)
+        (unstopped (ltb 64 (length own)) (termsCheck r c count s)
+        (areShort (length (sheets .players)) (length (sheets .qualities))) (timeOver (clockAmong clock ws)) (any hasTimeOver (eligible g ws)) (tooWide own) (chosen given s own) (entries-fit g ws few) (own-over clock ws g) (rw heard at (sym (ap checkedOf e) ∙ checked)))
 
     -- the check passes: the choice decides
-    pub full-given : k ≡ Passed → {q : QueueState} → q ≡ queue → {v : Outcome Selection} → v ≡ choiceRule given s q → {h : Handed} {ps : List ℕ} {qs : List Float} → HandedNumbers quality sheets (selected v) h ps qs → FoundNumbers call ws h ps qs
-    full-given e {q} w {v} g {h} {ps} {qs} z =
-        let k : selected v ≡ findings call ws = ap selected (g ∙ ap (choiceRule given s) w) ∙ sym (full-found e) in
+    pub full-given : k ≡ Passed → {q : QueueState} → q ≡ holding own → {v : Outcome Selection} → v ≡ choiceRule given s q → {h : Handed} {ps : List ℕ} {qs : List Float} → HandedNumbers quality sheets (selected v) h ps qs → Full h ps qs
+    full-given e {q} w {v} i {h} {ps} {qs} z =
+        let k : selected v ≡ findings (full given) clock sheets s own ws = ap selected (i ∙ ap (choiceRule given s) w) ∙ sym (full-found e) in
         rw k at z

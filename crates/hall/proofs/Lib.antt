@@ -1,3 +1,5 @@
+pub mod Circle
+pub mod GameLaws
 pub mod KeyLaws
 pub mod WaitLaws
 pub mod Turns
@@ -5,3 +7,5 @@ pub mod RoundLaws
 pub mod ChoiceRounds
 pub mod Found
 pub mod Friends
+pub mod Others
+pub mod Dispatch

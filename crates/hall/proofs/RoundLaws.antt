@@ -2,10 +2,11 @@
 use Prim.Native.Nat.{ℕ, _+_, _*_, _≤_}
 use mathlib.Core.Path.{_≡_, refl, sym, ap, _∙_}
 use mathlib.Core.Bool.{Bool, true, false, cond, _||_}
-use mathlib.Core.List.{List, _++_, map}
+use mathlib.Core.List.{List, [], _++_, map}
+use mathlib.Core.Option.{Option}
 use native.Mathlib.Omega.{arith}
-use borrow.Author.Tests.{le-ltb}
-use lib.Dec.{ltb}
+use borrow.Author.Tests.{le-ltb, eqb-true}
+use lib.Dec.{eqb, ltb}
 use lib.Ieee.{Float}
 use lib.ListN.{length, take, drop, length-append, length-map}
 use lib.Seq.{take-at}
@@ -15,9 +16,10 @@ use Rattle.base.specs.declared.Refusal.{Refusal}
 use Rattle.base.specs.declared.Refusal.the-variants.{Clock}
 use Rattle.base.specs.Lists.{any, All}
 use Rattle.base.specs.Refusals.{Outcome, refused, gives, guarded, refusalNumber, checkedOf}
-use Rattle.base.proofs.Cases.{never}
+use Rattle.base.proofs.Cases.{cases, never}
 use Rattle.base.proofs.Checks.{guard-refuses, guard-passes, passed-to}
 use Rattle.base.proofs.Loops.{seek-map}
+use Rattle.base.proofs.Members.{length-keep}
 use Rattle.base.proofs.Numbers.{refusal-back}
 use Rattle.queue.specs.Time.{timeOver}
 use Rattle.queue.specs.Queue.{QueueState, joinedOver, holding}
@@ -33,14 +35,17 @@ use Rattle.seating.proofs.Laws.{length-seats}
 use Rattle.greedy.specs.Greedy.{greedyMatches, greedyRule}
 use Rattle.beam.specs.Beam.{beaming, beamMatches, beamCheck, beamRule}
 use Rattle.base.proofs.All.{all-so}
-use Rattle.greedy.proofs.Seats.{greedy-sized}
+use Rattle.greedy.proofs.Seats.{greedy-sized, greedy-none-of-a}
 use Rattle.beam.proofs.Seats.{beam-sized}
 use Rattle.beam.proofs.Sheets.{beam-fit}
+use Rattle.hall.specs.Games.{unused, sizesFor, eligible, sizesBy, eligibleBy, noGame, gameIn}
 use Rattle.hall.specs.Hall.{hasTimeOver, entryOf}
-use Rattle.hall.specs.Rounds.{greedy, beam, RoundCall, Found, calling, untried, findings}
-use Rattle.hall.specs.Steps.{HandedNumbers, FoundNumbers}
+use Rattle.hall.specs.Rounds.{greedy, beam, Found, untried, findings}
+use Rattle.hall.specs.Steps.{clockAmong, HandedNumbers, FoundNumbers}
 use Rattle.hall.specs.declared.Booking.{Booking}
 use Rattle.hall.specs.declared.rounds.Handed.{Handed}
+use Rattle.hall.proofs.GameLaws.{sizes-none}
+use Rattle.hall.proofs.WaitLaws.{clock-over, clock-kept, own-over}
 
 -- ---- what a round comes to
 
@@ -144,9 +149,9 @@ all-seated s =
     all-so (λ m. (length (m .a .players) ≡ s .a) × (length (m .b .players) ≡ s .b)) (λ m. length (seated m) ≡ seatsOf s)
     (λ m z. length-append (m .a .players) (m .b .players) ∙ rw (z .0, z .1))
 
--- the entries of so few bookings are within the queue's limit
-pub entries-fit : (ws : List Booking) → length ws ≤ 64 → ltb 64 (length (map entryOf ws)) ≡ false
-entries-fit ws few = rw (length-map ws entryOf) (le-ltb 64 (length ws) few)
+-- the entries of a game among so few bookings are within the queue's limit
+pub entries-fit : (g : ℕ) (ws : List Booking) → length ws ≤ 64 → ltb 64 (length (map entryOf (eligible g ws))) ≡ false
+entries-fit g ws few = rw (length-map (eligible g ws) entryOf) (le-ltb 64 (length (eligible g ws)) (omega (arith, length-keep (λ b. eqb (b .game) g) ws)))
 
 -- an entry's time is above 2^53 where its booking's is
 pub entries-over : (ws : List Booking) → any joinedOver (map entryOf ws) ≡ any hasTimeOver ws
@@ -154,21 +159,21 @@ entries-over ws = seek-map entryOf joinedOver (λ x. true) false ws
 
 -- ---- the greedy round
 
--- the checks of the search, and then of the clock, are those of the round
-chain : {A : Type 0} (w so : Bool) (o : Outcome Unit) (sh lc le : Bool) (v : Outcome A) → w ≡ false → guarded (guarded (cond so (refused 1) o) (cond sh (refused 3) (cond (lc || le) (refused 4) (gives tt)))) v ≡ guarded (cond (w || so) (refused 1) (guarded o (cond sh (refused 3) (cond le (refused 4) (gives tt))))) (cond lc (refused 4) v)
-chain true so o sh lc le v e = never cc
-chain false true o sh lc le v e = refl
-chain false false (refused n) sh lc le v e = refl
-chain false false (gives u) true lc le v e = refl
-chain false false (gives u) false true true v e = refl
-chain false false (gives u) false true false v e = refl
-chain false false (gives u) false false true v e = refl
-chain false false (gives u) false false false v e = refl
+-- the checks of the search over the game's entries, and then of the clock, are those of the round
+chain : {A : Type 0} (w so : Bool) (o : Outcome Unit) (sh late own : Bool) (v : Outcome A) → w ≡ false → (own ≡ true → late ≡ true) → guarded (guarded (cond so (refused 1) o) (cond sh (refused 3) (cond late (refused 4) (gives tt)))) v ≡ guarded (cond (w || so) (refused 1) (guarded o (cond sh (refused 3) (cond own (refused 4) (gives tt))))) (cond late (refused 4) v)
+chain true so o sh late own v e f = never cc
+chain false true o sh late own v e f = refl
+chain false false (refused n) sh late own v e f = refl
+chain false false (gives u) true late own v e f = refl
+chain false false (gives u) false true true v e f = refl
+chain false false (gives u) false true false v e f = refl
+chain false false (gives u) false false true v e f = never (let z : false ≡ true = f refl in cc)
+chain false false (gives u) false false false v e f = refl
 
-module _ (ws : List Booking) (few : length ws ≤ 64) (q : QueueState) (whole : q ≡ holding (map entryOf ws)) (s : TeamComposition) (r : Roster) (clock : ℕ) (sheets : Sheets) where
-  -- the call, its matches and the check of the search
-  abbrev call : RoundCall
-  call = calling (greedy s r) clock (sheets .players) (sheets .qualities)
+module _ (ws : List Booking) (few : length ws ≤ 64) (g : ℕ) (q : QueueState) (whole : q ≡ holding (map entryOf (eligible g ws))) (s : TeamComposition) (r : Roster) (clock : ℕ) (sheets : Sheets) {at : ℕ} (heard : at ≡ clockAmong clock ws) where
+  -- the numbers to be shown, the quality of a match and the check of the search
+  abbrev Greedy : Handed → List ℕ → List Float → Type 0
+  Greedy = FoundNumbers (greedy r) clock sheets s g ws
 
   abbrev quality : MatchState → Float
   quality m = qualityOf r (m .a .players) (m .b .players)
@@ -180,24 +185,24 @@ module _ (ws : List Booking) (few : length ws ≤ 64) (q : QueueState) (whole : 
   searched = guarded check (gives (greedyMatches s r (q .entries)))
 
   -- what is found stands behind the check and the clock
-  greedy-found : findings call ws ≡ guarded check (cond (timeOver clock) (refused 4) (gives (record { matches = greedyMatches s r (q .entries); tried = 0 })))
+  greedy-found : findings (greedy r) clock sheets s (map entryOf (eligible g ws)) ws ≡ guarded check (cond (timeOver at) (refused 4) (gives (record { matches = greedyMatches s r (q .entries); tried = 0 })))
   unfolding findings
   greedy-found =
-      rw (whole, entries-over ws)
-      (chain (ltb 64 (length (map entryOf ws))) (sizesOver s) (ratingsCheck r) (areShort (length (sheets .players)) (length (sheets .qualities))) (timeOver clock) (any hasTimeOver ws) _ (entries-fit ws few))
+      rw (whole, heard, entries-over (eligible g ws), ← clock-over clock ws)
+      (chain (ltb 64 (length (map entryOf (eligible g ws)))) (sizesOver s) (ratingsCheck r) (areShort (length (sheets .players)) (length (sheets .qualities))) (timeOver (clockAmong clock ws)) (any hasTimeOver (eligible g ws)) _ (entries-fit g ws few) (own-over clock ws g))
 
   module _ (k : Checked) (checked : checkedOf k ≡ check) where
     -- the check refuses
-    pub greedy-refused : (x : Refusal) → k ≡ Refused x → {h : Handed} → h ≡ refusing x → FoundNumbers call ws h (sheets .players) (sheets .qualities)
-    greedy-refused x e g = handed-refused quality sheets x (greedy-found ∙ sym (guard-refuses _ k e checked)) g
+    pub greedy-refused : (x : Refusal) → k ≡ Refused x → {h : Handed} → h ≡ refusing x → Greedy h (sheets .players) (sheets .qualities)
+    greedy-refused x e f = handed-refused quality sheets x (greedy-found ∙ sym (guard-refuses _ k e checked)) f
 
     module _ (passed : k ≡ Passed) where
       -- the clock is above 2^53
-      pub greedy-clock : timeOver clock ≡ true → {h : Handed} → h ≡ refusing Clock → FoundNumbers call ws h (sheets .players) (sheets .qualities)
-      greedy-clock l g = handed-refused quality sheets Clock (greedy-found ∙ sym (guard-passes _ k passed checked) ∙ rw l) g
+      pub greedy-clock : timeOver at ≡ true → {h : Handed} → h ≡ refusing Clock → Greedy h (sheets .players) (sheets .qualities)
+      greedy-clock l f = handed-refused quality sheets Clock (greedy-found ∙ sym (guard-passes _ k passed checked) ∙ rw l) f
 
       -- it is not: what is found is what the search gives
-      searched-found : timeOver clock ≡ false → findings call ws ≡ untried searched
+      searched-found : timeOver at ≡ false → findings (greedy r) clock sheets s (map entryOf (eligible g ws)) ws ≡ untried searched
       searched-found l =
           greedy-found ∙ sym (guard-passes _ k passed checked) ∙ rw l (ap untried (guard-passes (gives (greedyMatches s r (q .entries))) k passed checked))
 
@@ -211,7 +216,7 @@ module _ (ws : List Booking) (few : length ws ≤ 64) (q : QueueState) (whole : 
       -- what the search left
       module _ (f : Formed) {ps : List ℕ} {qs : List Float} (left : leaving f ps qs ≡ greedyRule s r q sheets) where
         -- it refuses
-        pub greedy-search-refused : timeOver clock ≡ false → (x : Refusal) → f ≡ Formed.Refused x → {h : Handed} → h ≡ refusing x → FoundNumbers call ws h ps qs
+        pub greedy-search-refused : timeOver at ≡ false → (x : Refusal) → f ≡ Formed.Refused x → {h : Handed} → h ≡ refusing x → Greedy h ps qs
         greedy-search-refused l = search-refused quality sheets (seatsOf s) searched sized f left (searched-found l)
 
         module _ (n : ℕ) (e : f ≡ Formed.Count n) where
@@ -220,49 +225,63 @@ module _ (ws : List Booking) (few : length ws ≤ 64) (q : QueueState) (whole : 
           greedy-fits = search-fits quality sheets (seatsOf s) searched sized f left n e
 
           -- it gives matches
-          pub greedy-given : timeOver clock ≡ false → FoundNumbers call ws (handing n (seatsOf s) 0) ps qs
+          pub greedy-given : timeOver at ≡ false → Greedy (handing n (seatsOf s) 0) ps qs
           greedy-given l = search-given quality sheets (seatsOf s) searched sized f left n e (searched-found l)
+
+-- where no game is played, nobody is found, whoever is looked at
+pub greedy-of-none : (sizes : List TeamComposition) (r : Roster) (clock : ℕ) (sheets : Sheets) (ws : List Booking) (n : ℕ) → length sizes ≡ 8 → {x : Option ℕ} → gameIn n ≡ x →
+    findings (greedy r) clock sheets (sizesFor sizes n) (map entryOf (eligible n ws)) ws ≡ findings (greedy r) clock sheets (sizesBy sizes x) (map entryOf (eligibleBy x ws)) ws
+unfolding findings
+greedy-of-none sizes r clock sheets ws n long {x} e =
+    rw (← e)
+    (cases (eqb n noGame)
+    (λ t.
+    let none : unused ≡ sizesFor sizes n = sizes-none sizes n long (omega (arith, eqb-true n noGame t)) in
+    rw (t, ← none, greedy-none-of-a unused r (map entryOf (eligible n ws)) refl, greedy-none-of-a unused r [] refl))
+    (λ f. rw f))
 
 -- ---- the beam round
 
--- the checks of the search are those of the round
-chain-of-beam : (w over : Bool) (o : Outcome Unit) (sh l : Bool) (v : Outcome (List MatchState)) → w ≡ false → guarded (guarded (cond over (refused 1) o) (cond sh (refused 3) (cond l (refused 4) (gives tt)))) (untried v) ≡ untried (guarded (cond (w || over) (refused 1) (guarded o (cond sh (refused 3) (cond l (refused 4) (gives tt))))) v)
-chain-of-beam true over o sh l v e = never cc
-chain-of-beam false true o sh l v e = refl
-chain-of-beam false false (refused n) sh l v e = refl
-chain-of-beam false false (gives u) true l v e = refl
-chain-of-beam false false (gives u) false true v e = refl
-chain-of-beam false false (gives u) false false v e = refl
+-- the checks of the search, at the clock that is checked, are those of the round
+chain-of-beam : (w over : Bool) (o : Outcome Unit) (sh late own : Bool) (u v : Outcome (List MatchState)) → w ≡ false → (own ≡ true → late ≡ true) → (late ≡ false → u ≡ v) → guarded (guarded (cond over (refused 1) o) (cond sh (refused 3) (cond late (refused 4) (gives tt)))) (untried u) ≡ untried (guarded (cond (w || over) (refused 1) (guarded o (cond sh (refused 3) (cond (late || own) (refused 4) (gives tt))))) v)
+chain-of-beam true over o sh late own u v e f g = never cc
+chain-of-beam false true o sh late own u v e f g = refl
+chain-of-beam false false (refused n) sh late own u v e f g = refl
+chain-of-beam false false (gives x) true late own u v e f g = refl
+chain-of-beam false false (gives x) false true own u v e f g = refl
+chain-of-beam false false (gives x) false false true u v e f g = never (let z : false ≡ true = f refl in cc)
+chain-of-beam false false (gives x) false false false u v e f g = ap untried (g refl)
 
-module _ (ws : List Booking) (few : length ws ≤ 64) (q : QueueState) (whole : q ≡ holding (map entryOf ws)) (s : TeamComposition) (width : ℕ) (objective : MatchObjective) (r : Roster) (clock : ℕ) (sheets : Sheets) where
-  -- the call, its matches and the check of the search
-  abbrev beamCall : RoundCall
-  beamCall = calling (beam s width objective r) clock (sheets .players) (sheets .qualities)
+module _ (ws : List Booking) (few : length ws ≤ 64) (g : ℕ) (q : QueueState) (whole : q ≡ holding (map entryOf (eligible g ws))) (s : TeamComposition) (width : ℕ) (objective : MatchObjective) (r : Roster) (clock : ℕ) (sheets : Sheets) {at : ℕ} (heard : at ≡ clockAmong clock ws) where
+  -- the numbers to be shown, the quality of a match, the matches and the check of the search
+  abbrev Beam : Handed → List ℕ → List Float → Type 0
+  Beam = FoundNumbers (beam width objective r) clock sheets s g ws
 
   abbrev beamQuality : MatchState → Float
   beamQuality m = qualityOf r (m .a .players) (m .b .players)
 
   abbrev beamed : Outcome (List MatchState)
-  beamed = beamMatches (beaming s width objective r (q .entries) clock) (q .entries)
+  beamed = beamMatches (beaming s width objective r (q .entries) at) (q .entries)
 
   abbrev beamChecked : Outcome Unit
-  beamChecked = beamCheck s width r q clock (length (sheets .players)) (length (sheets .qualities))
+  beamChecked = beamCheck s width r q at (length (sheets .players)) (length (sheets .qualities))
 
   -- what is found is what the search gives
-  beam-found : findings beamCall ws ≡ untried (guarded beamChecked beamed)
+  beam-found : findings (beam width objective r) clock sheets s (map entryOf (eligible g ws)) ws ≡ untried (guarded beamChecked beamed)
   unfolding findings
   beam-found =
-      rw (whole, entries-over ws)
-      (chain-of-beam (ltb 64 (length (map entryOf ws))) (sizesOver s || ltb 32 width) (deviationsCheck r) (areShort (length (sheets .players)) (length (sheets .qualities))) (timeOver clock || any hasTimeOver ws) _ (entries-fit ws few))
+      rw (whole, heard, entries-over (eligible g ws), ← clock-over clock ws)
+      (chain-of-beam (ltb 64 (length (map entryOf (eligible g ws)))) (sizesOver s || ltb 32 width) (deviationsCheck r) (areShort (length (sheets .players)) (length (sheets .qualities))) (timeOver (clockAmong clock ws)) (any hasTimeOver (eligible g ws)) _ _ (entries-fit g ws few) (own-over clock ws g)
+      (λ e. ap (λ (t : ℕ). beamMatches (beaming s width objective r (map entryOf (eligible g ws)) t) (map entryOf (eligible g ws))) (sym (clock-kept clock ws e))))
 
   -- every match seats A + B
   beam-seated : (ms : List MatchState) → guarded beamChecked beamed ≡ gives ms → All (λ m. length (seated m) ≡ seatsOf s) ms
-  beam-seated ms e = all-seated s ms (beam-sized (beaming s width objective r (q .entries) clock) (q .entries) ms (passed-to beamChecked beamed e .1))
+  beam-seated ms e = all-seated s ms (beam-sized (beaming s width objective r (q .entries) at) (q .entries) ms (passed-to beamChecked beamed e .1))
 
   -- what the search left
-  module _ (f : Formed) {ps : List ℕ} {qs : List Float} (left : leaving f ps qs ≡ beamRule s width objective r q clock sheets) where
+  module _ (f : Formed) {ps : List ℕ} {qs : List Float} (left : leaving f ps qs ≡ beamRule s width objective r q at sheets) where
     -- it refuses
-    pub beam-refused : (x : Refusal) → f ≡ Formed.Refused x → {h : Handed} → h ≡ refusing x → FoundNumbers beamCall ws h ps qs
+    pub beam-refused : (x : Refusal) → f ≡ Formed.Refused x → {h : Handed} → h ≡ refusing x → Beam h ps qs
     beam-refused = search-refused beamQuality sheets (seatsOf s) (guarded beamChecked beamed) beam-seated f left beam-found
 
     module _ (n : ℕ) (e : f ≡ Formed.Count n) where
@@ -270,7 +289,7 @@ module _ (ws : List Booking) (few : length ws ≤ 64) (q : QueueState) (whole : 
       pub beam-sizes : s .a + s .b ≤ 16
       beam-sizes =
           let y = given beamQuality sheets (seatsOf s) (guarded beamChecked beamed) beam-seated f left n e in
-          let z = beam-fit s width r q clock (length (sheets .players)) (length (sheets .qualities)) (passed-to beamChecked beamed (y .1) .0) in
+          let z = beam-fit s width r q at (length (sheets .players)) (length (sheets .qualities)) (passed-to beamChecked beamed (y .1) .0) in
           omega (arith, z .1, z .2)
 
       -- the seats stand on the sheet
@@ -278,5 +297,5 @@ module _ (ws : List Booking) (few : length ws ≤ 64) (q : QueueState) (whole : 
       beam-fits = search-fits beamQuality sheets (seatsOf s) (guarded beamChecked beamed) beam-seated f left n e
 
       -- it gives matches
-      pub beam-given : FoundNumbers beamCall ws (handing n (seatsOf s) 0) ps qs
+      pub beam-given : Beam (handing n (seatsOf s) 0) ps qs
       beam-given = search-given beamQuality sheets (seatsOf s) (guarded beamChecked beamed) beam-seated f left n e beam-found

@@ -1,4 +1,4 @@
--- Document 01, "Hall (added)": who waits, the key book, and what a booking or a withdrawal does.
+-- Document 01, "Hall (added)", with the games of document 02, 2.4: who waits, the key book, and what a booking or a withdrawal does.
 use Prim.Native.Nat.{ℕ}
 use mathlib.Core.Bool.{Bool, not, cond, _&&_, _||_}
 use mathlib.Core.List.{List, [], _∷_, _++_}
@@ -10,9 +10,11 @@ use Rattle.base.specs.Numbers.{refusalOf}
 use Rattle.base.specs.Lists.{seek, any, keep, removeFirst, member}
 use Rattle.queue.specs.Time.{timeOver}
 use Rattle.queue.specs.declared.QueueEntry.{QueueEntry}
+use Rattle.seating.specs.declared.TeamComposition.{TeamComposition}
 use Rattle.hall.specs.declared.Booking.{Booking}
 use Rattle.hall.specs.declared.Note.{Note}
 use Rattle.hall.specs.declared.Hall.{Hall}
+use Rattle.hall.specs.Games.{isNoGame, noGame, gamesOver}
 
 -- ---- who waits
 
@@ -45,7 +47,7 @@ withoutGuest p = removeFirst (bookedBy p)
 abbrev pub withoutGuests : List ℕ → List Booking → List Booking
 withoutGuests ps = keep (λ b. not (member (b .player) ps))
 
--- the queue's entry of a booking
+-- the queue's entry of a booking: what a search reads of it
 abbrev pub entryOf : Booking → QueueEntry
 entryOf b = record { player = b .player; joined = b .joined; rating = b .rating; party = b .party; role = b .role }
 
@@ -95,28 +97,36 @@ logging rs = record { size = length rs; records = rs }
 
 -- ---- the hall
 
--- "waiting queue and key book"
+-- "waiting queue and key book", the sizes of the games, and the last game served
 pub record HallState : Type 0 where
   pub waiting : WaitState
   pub log : LogState
+  pub sizes : List TeamComposition
+  pub served : ℕ
 
 abbrev pub hallOf : Hall → HallState
-hallOf h = record { waiting = waitsWith (h .waiting) (h .bookings); log = logWith (h .noted) (h .keys) (h .notes) }
+hallOf h =
+    record {
+      waiting = waitsWith (h .waiting) (h .bookings);
+      log = logWith (h .noted) (h .keys) (h .notes);
+      sizes = h .sizes;
+      served = h .served;
+    }
 
--- the hall of just these bookings and records
-abbrev pub hallWith : List Booking → List KeyRecord → HallState
-hallWith ws rs = record { waiting = awaiting ws; log = logging rs }
+-- the hall with just these bookings and records
+abbrev pub hallWith : HallState → List Booking → List KeyRecord → HallState
+hallWith h ws rs = record { waiting = awaiting ws; log = logging rs; sizes = h .sizes; served = h .served }
 
--- "nobody waiting and no key noted"
-abbrev pub empty : HallState
-empty = hallWith [] []
+-- "nobody waiting and no key noted", and "sizes given with the empty hall"
+abbrev pub empty : List TeamComposition → HallState
+empty sizes = record { waiting = awaiting []; log = logging []; sizes = sizes; served = noGame }
 
--- refusal 1: "a hall over 64 waiting or 1,024 notes"
-abbrev pub overLimits : ℕ → ℕ → Bool
-overLimits waiting noted = ltb 64 waiting || ltb 1024 noted
+-- refusal 1: "a hall over 64 waiting or 1,024 notes", and what its games may not be
+abbrev pub overLimits : ℕ → ℕ → List TeamComposition → ℕ → Bool
+overLimits waiting noted sizes served = (ltb 64 waiting || ltb 1024 noted) || gamesOver sizes served
 
 abbrev pub isOver : HallState → Bool
-isOver h = overLimits (h .waiting .size) (h .log .size)
+isOver h = overLimits (h .waiting .size) (h .log .size) (h .sizes) (h .served)
 
 -- ---- a booking or a withdrawal whose key is new
 
@@ -128,9 +138,11 @@ pub record Deal : Type 0 where
   pub waiting : List Booking
   pub answer : Outcome (Unit {0})
 
--- a booking: 4, 9, 10, or accepted. Does its guest wait, and is there room?
+-- a booking: 13, 4, 9, 10, or accepted. Does its guest wait, for whatever game, and is there room?
 unfoldable pub bookingAnswer : Booking → Bool → Bool → Outcome (Unit {0})
-bookingAnswer b waits room = cond (hasTimeOver b) (refused 4) (cond waits (refused 9) (cond room (gives tt) (refused 10)))
+bookingAnswer b waits room =
+    cond (isNoGame (b .game)) (refused 13)
+    (cond (hasTimeOver b) (refused 4) (cond waits (refused 9) (cond room (gives tt) (refused 10))))
 
 -- a withdrawal: accepted, or 11. Does its guest wait?
 abbrev pub withdrawalAnswer : Bool → Outcome (Unit {0})
@@ -165,7 +177,7 @@ unfoldable pub answerIn : ℕ → ℕ → Option (Outcome (Unit {0}))
 answerIn kind n =
     cond (eqb n 0) (some (gives tt))
     (cond (eqb kind 0)
-    (cond (eqb n 4 || (eqb n 9 || eqb n 10)) (some (refused n)) none)
+    (cond (eqb n 4 || (eqb n 9 || (eqb n 10 || eqb n 13))) (some (refused n)) none)
     (cond (eqb kind 1 && eqb n 11) (some (refused n)) none))
 
 -- the record of a call that got this answer
@@ -200,14 +212,14 @@ pub record Turn : Type 0 where
   pub hall : HallState
   pub answer : Outcome (Unit {0})
 
--- "Refusals 1, 7 and 8 change nothing. Refusals 4, 9, 10 and 11 are noted with the key"
+-- "Refusals 1, 7 and 8 change nothing. Refusals 4, 9, 10 and 11 are noted with the key", and so is 13
 abbrev pub turn : HallState → Signature → Deal → Judgement → Turn
 turn h s d (known a) = record { hall = h; answer = a }
 turn h s d clash = record { hall = h; answer = refused 7 }
 turn h s d full = record { hall = h; answer = refused 8 }
-turn h s d fresh = record { hall = hallWith (d .waiting) (h .log .records ++ (recorded s (d .answer) ∷ [])); answer = d .answer }
+turn h s d fresh = record { hall = hallWith h (d .waiting) (h .log .records ++ (recorded s (d .answer) ∷ [])); answer = d .answer }
 
--- "A booking checks 1, 7, 8, 4, 9, 10; a withdrawal 1, 7, 8, 11; a resend stops after 8 with its noted answer."
+-- "A booking checks 1, 7, 8, 4, 9, 10", with 13 "after 8"; "a withdrawal 1, 7, 8, 11; a resend stops after 8 with its noted answer."
 abbrev pub keyedRule : HallState → ℕ → Deed → Turn
 keyedRule h k d =
     cond (isOver h) (record { hall = h; answer = refused 1 })

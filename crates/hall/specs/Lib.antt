@@ -1,3 +1,4 @@
+pub mod Games
 pub mod Hall
 pub mod Rounds
 pub mod Steps

@@ -2,17 +2,20 @@
 use Prim.Native.Nat.{ℕ, _≤_}
 use mathlib.Core.Path.{_≡_}
 use mathlib.Core.Bool.{cond}
-use mathlib.Core.List.{List}
+use mathlib.Core.List.{List, map}
 use mathlib.Core.Option.{Option, none, some}
 use lib.Ieee.{Float}
 use lib.ListN.{length, take}
 use Rattle.base.specs.Refusals.{Outcome, refused, gives}
+use Rattle.base.specs.Lists.{any}
 use Rattle.base.specs.Numbers.{outcomeIn}
 use Rattle.queue.specs.Time.{timeOver}
 use Rattle.matchmaker.specs.Quality.{MatchState}
+use Rattle.seating.specs.declared.TeamComposition.{TeamComposition}
 use Rattle.seating.specs.Seating.{Sheets, areShort, seats, handedOut}
-use Rattle.hall.specs.Hall.{Content, same, contentIn, answerIn}
-use Rattle.hall.specs.Rounds.{RoundCall, Found, findings, qualityBy, matchesIn, matchesFrom, triedIn}
+use Rattle.hall.specs.Games.{eligible}
+use Rattle.hall.specs.Hall.{Content, same, contentIn, answerIn, entryOf, hasTimeOver}
+use Rattle.hall.specs.Rounds.{Method, Found, findings, qualityBy, matchesIn, matchesFrom, triedIn}
 use Rattle.hall.specs.declared.Booking.{Booking}
 use Rattle.hall.specs.declared.Note.{Note}
 use Rattle.hall.specs.declared.rounds.Handed.{Handed}
@@ -34,6 +37,10 @@ noteWith c n = record { player = c .player; kind = c .kind; answer = n }
 
 -- ---- rounds
 
+-- the clock of a round, and one above 2^53 where a booking's time is
+abbrev pub clockAmong : ℕ → List Booking → ℕ
+clockAmong clock ws = cond (any hasTimeOver ws) 18446744073709551615 clock
+
 -- refusal 3 of a full round, and 4 of its clock; of the sheets only the lengths count
 abbrev pub sheetsAndClockCheck : ℕ → ℕ → ℕ → Outcome Unit
 sheetsAndClockCheck clock players qualities = cond (areShort players qualities) (refused 3) (cond (timeOver clock) (refused 4) (gives tt))
@@ -47,6 +54,6 @@ pub record HandedNumbers (quality : MatchState → Float) (sheets : Sheets) (o :
   pub fits : r .seats ≤ length players
   pub seated : take (r .seats) players ≡ seats (matchesFrom o)
 
--- the numbers of this call over these bookings
-abbrev pub FoundNumbers : RoundCall → List Booking → Handed → List ℕ → List Float → Type 0
-FoundNumbers c ws = HandedNumbers (qualityBy (c .round)) (c .sheets) (findings c ws)
+-- the numbers of this method with these sizes over the bookings of a game, among these who wait
+abbrev pub FoundNumbers : Method → ℕ → Sheets → TeamComposition → ℕ → List Booking → Handed → List ℕ → List Float → Type 0
+FoundNumbers m clock sheets s g ws = HandedNumbers (qualityBy m) sheets (findings m clock sheets s (map entryOf (eligible g ws)) ws)

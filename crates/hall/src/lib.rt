@@ -1,10 +1,13 @@
-// The hall: who waits, and the book of keys by which a resent call gets the answer that it got. What its calls are made of stands here,
-// in functions of numbers and of bookings; the calls themselves, which take a hall and hand out the hall as they leave it, are the
+// The hall: who waits, for which of eight games, and the book of keys by which a resent call gets the answer that it got. What its calls
+// are made of stands here, in functions of numbers and of bookings; the calls themselves, which take a hall and hand out the hall as they leave it, are the
 // exported ones: each function that a hall goes through copies it once more.
 ghost use mathlib.Core.Path.{_≡_};
 ghost use lib.Dec.{ltb};
 ghost use Rattle.base.specs.Numbers.{outcomeIn};
+ghost use Rattle.hall.specs.Games.{isNoGame};
 ghost use Rattle.hall.specs.Hall.{overLimits, bookingAnswer, withdrawalAnswer};
+ghost use Rattle.hall.specs.Rounds.{hallCheck};
+use seating::TeamComposition;
 
 // Who waits.
 pub mod waiting;
@@ -12,7 +15,10 @@ pub mod waiting;
 // The key book.
 pub mod notes;
 
-// What the three rounds hand out.
+// The games: their sizes, and whose turn it is.
+pub mod games;
+
+// What the rounds hand out.
 pub mod rounds;
 
 // What a call brings beside its key, and what waits. Party 0 and role 0 mean none.
@@ -23,6 +29,7 @@ pub struct Booking {
     pub rating: f64,
     pub party: u64,
     pub role: u32,
+    pub game: u8,
 }
 
 // What is noted beside a key. Kind 0 is a booking, 1 a withdrawal; answer 0 is accepted, n is refusal n.
@@ -34,7 +41,8 @@ pub struct Note {
 }
 
 // The first `waiting` bookings wait, in the order of coming. The first `noted` keys are noted, in the order of coming, each with the
-// note at its place. The places behind mean nothing.
+// note at its place. The places behind mean nothing. Each game has its sizes, 0 and 0 where it is not used; `served` is the last game that
+// a dispatch served, 255 where none was.
 #[repr(C)]
 pub struct Hall {
     pub bookings: [Booking; 64],
@@ -42,22 +50,43 @@ pub struct Hall {
     pub keys: [u64; 1024],
     pub notes: [Note; 1024],
     pub noted: usize,
+    pub sizes: [TeamComposition; 8],
+    pub served: u8,
 }
 
 // Is a hall with these numbers over its limits?
-pub fn is_over(waiting: usize, noted: usize) -> bool
-    ensures { λ r. ⌜ r ≡ overLimits waiting noted ⌝ }
+pub fn is_over(waiting: usize, noted: usize, sizes: [TeamComposition; 8], served: u8) -> bool
+    ensures { λ r. ⌜ r ≡ overLimits waiting noted sizes served ⌝ }
 {
     if 64 < waiting {
         return true;
     }
-    1024 < noted
+    if 1024 < noted {
+        return true;
+    }
+    games::are_over(sizes, served)
 }
 
-// A new key's booking: 4, 9, 10, or accepted.
+// The first refusals of a round of a game: 13, 1 where the hall is over its limits, or none.
+pub fn round_answer(game: u8, over: bool) -> u8
+    ensures { λ r. ⌜ outcomeIn r tt ≡ hallCheck (isNoGame game) over ⌝ }
+{
+    if 7 < game {
+        return 13;
+    }
+    if over {
+        return 1;
+    }
+    0
+}
+
+// A new key's booking: 13, 4, 9, 10, or accepted.
 pub fn booking_answer(booking: Booking, waits: bool, waiting: usize) -> u8
     ensures { λ r. ⌜ outcomeIn r tt ≡ bookingAnswer booking waits (ltb waiting 64) ⌝ }
 {
+    if 7 < booking.game {
+        return 13;
+    }
     if queue::time::is_over(booking.joined) {
         return 4;
     }

@@ -42,6 +42,9 @@ fn booking_heard(answer: u8) -> u8
     if answer == 10 {
         return 10;
     }
+    if answer == 13 {
+        return 13;
+    }
     7
 }
 

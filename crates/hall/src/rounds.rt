@@ -1,4 +1,4 @@
-// The greedy, the beam and the full round: a search or the best choice among the first bookings of an array.
+// The greedy, the beam and the full round: a search or the best choice among those of the first bookings of an array that are of a game.
 ghost use mathlib.Core.Path.{_≡_};
 ghost use Prim.Native.Nat.{_≤_};
 ghost use lib.ListN.{length, take};
@@ -7,7 +7,7 @@ ghost use Rattle.base.specs.Refusals.{guarded, refusalNumber, checkedOf};
 ghost use Rattle.base.specs.declared.Checked.the-variants.{Refused};
 ghost use Rattle.roster.specs.Roster.{ofRatings, ofDeviations, ofRules};
 ghost use Rattle.choice.specs.Full.{terms, termsCheck, choiceOf};
-ghost use Rattle.hall.specs.Rounds.{greedy, beam, full, calling, selected};
+ghost use Rattle.hall.specs.Rounds.{greedy, beam, full, selected};
 ghost use Rattle.hall.specs.Steps.{sheetsAndClockCheck, HandedNumbers, FoundNumbers};
 use crate::Booking;
 use crate::waiting;
@@ -45,10 +45,11 @@ fn refuses(refusal: Refusal) -> Handed
 
 // ---- the greedy round
 
-// The greedy search over the first n bookings.
+// The greedy search over those of the first n bookings that are of the game.
 pub fn greedy_handed(
     bookings: [Booking; 64],
     n: usize,
+    game: u8,
     sizes: TeamComposition,
     clock: u64,
     ids: &[u64],
@@ -56,9 +57,9 @@ pub fn greedy_handed(
     players: &mut [u64],
     qualities: &mut [f64],
 ) -> Handed
-    ensures { λ r. ⌜ FoundNumbers (calling (greedy sizes (ofRatings (now (ids .entry)) (now (ratings .entry)))) clock (now (players .entry)) (now (qualities .entry))) (take n bookings) r (now (players .exit)) (now (qualities .exit)) ⌝ }
+    ensures { λ r. ⌜ FoundNumbers (greedy (ofRatings (now (ids .entry)) (now (ratings .entry)))) clock (record { players = now (players .entry); qualities = now (qualities .entry) }) sizes game (take n bookings) r (now (players .exit)) (now (qualities .exit)) ⌝ }
 {
-    let queue = waiting::eligible(bookings, n);
+    let queue = waiting::eligible(bookings, n, game);
     if let Checked::Refused(refusal) = seating::searching::check(
         queue,
         sizes,
@@ -69,7 +70,7 @@ pub fn greedy_handed(
     ) {
         return refuses(refusal);
     }
-    if queue::time::is_over(clock) {
+    if queue::time::is_over(waiting::clock_among(bookings, n, clock)) {
         return refuses(Refusal::Clock);
     }
     let each = sizes.a + sizes.b;
@@ -90,10 +91,11 @@ pub fn greedy_handed(
 
 // ---- the beam round
 
-// The beam search over the first n bookings.
+// The beam search over those of the first n bookings that are of the game.
 pub fn beam_handed(
     bookings: [Booking; 64],
     n: usize,
+    game: u8,
     search: BeamSearch,
     sizes: TeamComposition,
     objective: MatchObjective,
@@ -104,9 +106,9 @@ pub fn beam_handed(
     players: &mut [u64],
     qualities: &mut [f64],
 ) -> Handed
-    ensures { λ r. ⌜ FoundNumbers (calling (beam sizes (search .width) objective (ofDeviations (now (ids .entry)) (now (ratings .entry)) (now (deviations .entry)))) clock (now (players .entry)) (now (qualities .entry))) (take n bookings) r (now (players .exit)) (now (qualities .exit)) ⌝ }
+    ensures { λ r. ⌜ FoundNumbers (beam (search .width) objective (ofDeviations (now (ids .entry)) (now (ratings .entry)) (now (deviations .entry)))) clock (record { players = now (players .entry); qualities = now (qualities .entry) }) sizes game (take n bookings) r (now (players .exit)) (now (qualities .exit)) ⌝ }
 {
-    let queue = waiting::eligible(bookings, n);
+    let queue = waiting::eligible(bookings, n, game);
     let formed = search.search(
         queue,
         sizes,
@@ -114,7 +116,7 @@ pub fn beam_handed(
         ids,
         ratings,
         deviations,
-        clock,
+        waiting::clock_among(bookings, n, clock),
         players,
         qualities,
     );
@@ -206,10 +208,11 @@ fn choice_handed(choice: Choice, players: &mut [u64], qualities: &mut [f64]) -> 
     }
 }
 
-// The best choice of the first n bookings, which are those who wait.
+// The best choice of those of the first n bookings that are of the game.
 pub fn full_handed(
     bookings: [Booking; 64],
     n: usize,
+    game: u8,
     sizes: TeamComposition,
     constraints: Constraints,
     friends: bool,
@@ -224,10 +227,11 @@ pub fn full_handed(
     players: &mut [u64],
     qualities: &mut [f64],
 ) -> Handed
-    ensures { λ r. ⌜ FoundNumbers (calling (full sizes (terms (ofRules (now (ids .entry)) (now (ratings .entry)) (now (parties .entry)) (now (roles .entry)) (now (regions .entry))) constraints friends objectives count)) clock (now (players .entry)) (now (qualities .entry))) (take n bookings) r (now (players .exit)) (now (qualities .exit)) ⌝ }
+    ensures { λ r. ⌜ FoundNumbers (full (terms (ofRules (now (ids .entry)) (now (ratings .entry)) (now (parties .entry)) (now (roles .entry)) (now (regions .entry))) constraints friends objectives count)) clock (record { players = now (players .entry); qualities = now (qualities .entry) }) sizes game (take n bookings) r (now (players .exit)) (now (qualities .exit)) ⌝ }
 {
     // The choice has refusals 1 and 2 by itself. Only a round that is refused anyway looks for them before.
-    let checked = check_sheets_and_clock(clock, players.len(), qualities.len());
+    let at = waiting::clock_among(bookings, n, clock);
+    let checked = check_sheets_and_clock(at, players.len(), qualities.len());
     if let Checked::Refused(behind) = checked {
         return refuses(first_refusal(
             behind,
@@ -242,7 +246,7 @@ pub fn full_handed(
         ));
     }
     let choice = choice::best_choice(
-        waiting::eligible(bookings, n),
+        waiting::eligible(bookings, n, game),
         sizes,
         constraints,
         friends,

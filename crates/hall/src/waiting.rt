@@ -2,10 +2,12 @@
 ghost use mathlib.Core.Path.{_≡_};
 ghost use mathlib.Core.List.{_++_, map};
 ghost use Prim.Native.Nat.{_+_, _-_, _≤_, _<_};
-ghost use lib.ListN.{take, drop};
+ghost use lib.ListN.{length, take, drop};
 ghost use Rattle.base.specs.Lists.{any, place, member};
 ghost use Rattle.queue.specs.Queue.{queueOf, holding};
-ghost use Rattle.hall.specs.Hall.{waitsWith, awaiting, bookedBy, withoutGuest, withoutGuests, entryOf};
+ghost use Rattle.hall.specs.Games.{eligible};
+ghost use Rattle.hall.specs.Hall.{waitsWith, awaiting, bookedBy, hasTimeOver, withoutGuest, withoutGuests, entryOf};
+ghost use Rattle.hall.specs.Steps.{clockAmong};
 use crate::Booking;
 use queue::Queue;
 use queue::QueueEntry;
@@ -130,8 +132,53 @@ pub fn without_seated(bookings: [Booking; 64], n: usize, players: &[u64], seats:
     }
 }
 
-// The queue of those of the first n bookings whom a round may seat: all of them.
-pub fn eligible(bookings: [Booking; 64], n: usize) -> Queue
+// ---- what a round reads
+
+// How many of the first n bookings are of the game?
+pub fn count(bookings: [Booking; 64], n: usize, game: u8) -> usize
+    ensures { λ r. ⌜ r ≡ length (eligible game (take n bookings)) ⌝ }
+{
+    let k = base::at_most(n, 64);
+    let mut m: usize = 0;
+    let mut i: usize = 0;
+    while i < k {
+        let booking = bookings[i];
+        if booking.game == game {
+            m += 1;
+            i += 1;
+        } else {
+            i += 1;
+        }
+    }
+    m
+}
+
+// The bookings of the game among the first n.
+fn of_game(bookings: [Booking; 64], n: usize, game: u8) -> Staying
+    ensures { λ r. ⌜ waitsWith (r .waiting) (r .bookings) ≡ awaiting (eligible game (take n bookings)) ⌝ }
+{
+    let k = base::at_most(n, 64);
+    let mut own = bookings;
+    let mut found: usize = 0;
+    let mut i: usize = 0;
+    while i < k {
+        let booking = bookings[i];
+        if booking.game != game {
+            i += 1;
+        } else {
+            own[found] = booking;
+            found += 1;
+            i += 1;
+        }
+    }
+    Staying {
+        bookings: own,
+        waiting: found,
+    }
+}
+
+// The first n bookings as a queue.
+fn queue_of(bookings: [Booking; 64], n: usize) -> Queue
     ensures { λ r. ⌜ queueOf r ≡ holding (map entryOf (take n bookings)) ⌝ }
 {
     let k = base::at_most(n, 64);
@@ -144,4 +191,39 @@ pub fn eligible(bookings: [Booking; 64], n: usize) -> Queue
     }
     queue.len = k;
     queue
+}
+
+// The queue of those of the first n bookings whom a round of the game may seat.
+pub fn eligible(bookings: [Booking; 64], n: usize, game: u8) -> Queue
+    ensures { λ r. ⌜ queueOf r ≡ holding (map entryOf (eligible game (take n bookings))) ⌝ }
+{
+    let own = of_game(bookings, n, game);
+    let row = own.bookings;
+    queue_of(row, own.waiting)
+}
+
+// Has one of the first n bookings a time above 2^53?
+fn has_time_over(bookings: [Booking; 64], n: usize) -> bool
+    ensures { λ r. ⌜ r ≡ any hasTimeOver (take n bookings) ⌝ }
+{
+    let k = base::at_most(n, 64);
+    let mut i: usize = 0;
+    while i < k {
+        let booking = bookings[i];
+        if queue::time::is_over(booking.joined) {
+            return true;
+        }
+        i += 1;
+    }
+    false
+}
+
+// The clock that a round is checked by: one above 2^53 where a time is, of whatever game, since a search sees only its own game's.
+pub fn clock_among(bookings: [Booking; 64], n: usize, clock: u64) -> u64
+    ensures { λ r. ⌜ r ≡ clockAmong clock (take n bookings) ⌝ }
+{
+    if has_time_over(bookings, n) {
+        return 18446744073709551615;
+    }
+    clock
 }

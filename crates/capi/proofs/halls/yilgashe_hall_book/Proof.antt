@@ -20,27 +20,27 @@ is-over-requires c κs = search needs
 
 returns : tie.Need-returns
 returns c =
-    let s = c .before .before .args in
+    let s = c .before .before .before .args in
     let h = s .hall in
-    turned-over (h .bookings) (h .waiting) (h .keys) (h .notes) (h .noted) (s .key) (book (s .booking)) (c .before .is-over .ensures) (c .if1 .taken)
+    turned-over (h .bookings) (h .waiting) (h .keys) (h .notes) (h .noted) (h .sizes) (h .served) (s .key) (book (s .booking)) (c .before .is-over .ensures) (c .if1 .taken)
 
 place-of-requires : tie.Need-place-of-requires
 place-of-requires c κs = search needs
 
 mul-note : tie.Need-mul-note
 mul-note c =
-    let s = c .before .before .before .before .before .before .before .args in
+    let s = c .before .before .before .before .before .before .before .before .args in
     let h = s .hall in
-    let u = within (h .waiting) (h .noted) (c .before .before .before .before .before .before .is-over .ensures) (c .before .before .before .before .before .if1 .left) in
+    let u = within (h .waiting) (h .noted) (h .sizes) (h .served) (c .before .before .before .before .before .before .is-over .ensures) (c .before .before .before .before .before .if1 .left) in
     let few : h .waiting ≤ 64 = u .0 in
     let fits : h .noted ≤ 1024 = u .1 in
     search needs
 
 element-copy-out-note : tie.Need-element-copy-out-note
 element-copy-out-note c =
-    let s = c .before .before .before .before .before .before .before .args in
+    let s = c .before .before .before .before .before .before .before .before .args in
     let h = s .hall in
-    let u = within (h .waiting) (h .noted) (c .before .before .before .before .before .before .is-over .ensures) (c .before .before .before .before .before .if1 .left) in
+    let u = within (h .waiting) (h .noted) (h .sizes) (h .served) (c .before .before .before .before .before .before .is-over .ensures) (c .before .before .before .before .before .if1 .left) in
     let few : h .waiting ≤ 64 = u .0 in
     let fits : h .noted ≤ 1024 = u .1 in
     search needs
@@ -50,25 +50,25 @@ heard-booking-requires c κs = search needs
 
 returns-2 : tie.Need-returns-2
 returns-2 c =
-    let s = c .before .before .before .before .before .before .before .before .before .args in
+    let s = c .before .before .before .before .before .before .before .before .before .before .args in
     let h = s .hall in
-    let u = within (h .waiting) (h .noted) (c .before .before .before .before .before .before .before .before .is-over .ensures) (c .before .before .before .before .before .before .before .if1 .left) in
+    let u = within (h .waiting) (h .noted) (h .sizes) (h .served) (c .before .before .before .before .before .before .before .before .is-over .ensures) (c .before .before .before .before .before .before .before .if1 .left) in
     let few : h .waiting ≤ 64 = u .0 in
     let fits : h .noted ≤ 1024 = u .1 in
     let long : length (h .keys) ≡ 1024 = search needs in
     let wide : length (h .notes) ≡ 1024 = search (unmapped, needs) in
-    turned-seen (h .bookings) (h .waiting) (h .keys) (h .notes) (h .noted) (s .key) (book (s .booking)) (c .before .before .before .before .before .before .before .before .is-over .ensures) (c .before .before .before .before .before .before .before .if1 .left) long wide fits _ (c .before .before .before .place-of .ensures) (c .before .before .if2 .taken) (c .heard-booking .result) (c .heard-booking .ensures)
+    turned-seen (h .bookings) (h .waiting) (h .keys) (h .notes) (h .noted) (h .sizes) (h .served) (s .key) (book (s .booking)) (c .before .before .before .before .before .before .before .before .is-over .ensures) (c .before .before .before .before .before .before .before .if1 .left) long wide fits _ (c .before .before .before .place-of .ensures) (c .before .before .if2 .taken) (c .heard-booking .result) (c .heard-booking .ensures)
 
 returns-3 : tie.Need-returns-3
 returns-3 c =
-    let s = c .before .before .before .before .before .before .before .before .args in
+    let s = c .before .before .before .before .before .before .before .before .before .args in
     let h = s .hall in
-    let u = within (h .waiting) (h .noted) (c .before .before .before .before .before .before .before .is-over .ensures) (c .before .before .before .before .before .before .if1 .left) in
+    let u = within (h .waiting) (h .noted) (h .sizes) (h .served) (c .before .before .before .before .before .before .before .is-over .ensures) (c .before .before .before .before .before .before .if1 .left) in
     let few : h .waiting ≤ 64 = u .0 in
     let fits : h .noted ≤ 1024 = u .1 in
     let long : length (h .keys) ≡ 1024 = search needs in
     let wide : length (h .notes) ≡ 1024 = search (unmapped, needs) in
-    turned-full (h .bookings) (h .waiting) (h .keys) (h .notes) (h .noted) (s .key) (book (s .booking)) (c .before .before .before .before .before .before .before .is-over .ensures) (c .before .before .before .before .before .before .if1 .left) long wide fits _ (c .before .before .place-of .ensures) (c .before .if2 .left) (c .if3 .taken)
+    turned-full (h .bookings) (h .waiting) (h .keys) (h .notes) (h .noted) (h .sizes) (h .served) (s .key) (book (s .booking)) (c .before .before .before .before .before .before .before .is-over .ensures) (c .before .before .before .before .before .before .if1 .left) long wide fits _ (c .before .before .place-of .ensures) (c .before .if2 .left) (c .if3 .taken)
 
 waits-requires : tie.Need-waits-requires
 waits-requires c κs = search needs
@@ -85,8 +85,8 @@ element-write-out c = search needs
 booking-note-requires : tie.Need-booking-note-requires
 booking-note-requires c κs = search needs
 
-mul-t24 : tie.Need-mul-t24
-mul-t24 c = search needs
+mul-t26 : tie.Need-mul-t26
+mul-t26 c = search needs
 
 element-set-from-out : tie.Need-element-set-from-out
 element-set-from-out c = search needs
@@ -96,30 +96,30 @@ add-out c = search needs
 
 mul-booking : tie.Need-mul-booking
 mul-booking c =
-    let s = c .before .before .before .before .before .before .before .before .before .before .before .before .before .args in
+    let s = c .before .before .before .before .before .before .before .before .before .before .before .before .before .before .args in
     let h = s .hall in
     let room : h .waiting < 64 = accepted-room (s .booking) _ (h .waiting) (c .before .before .booking-answer .result) (c .before .before .booking-answer .ensures) (c .if4 .taken) in
     search needs
 
 element-set-from-booking : tie.Need-element-set-from-booking
 element-set-from-booking c =
-    let s = c .before .before .before .before .before .before .before .before .before .before .before .before .before .args in
+    let s = c .before .before .before .before .before .before .before .before .before .before .before .before .before .before .args in
     let h = s .hall in
     let room : h .waiting < 64 = accepted-room (s .booking) _ (h .waiting) (c .before .before .booking-answer .result) (c .before .before .booking-answer .ensures) (c .if4 .taken) in
     search needs
 
 add-out-2 : tie.Need-add-out-2
 add-out-2 c =
-    let s = c .before .before .before .before .before .before .before .before .before .before .before .before .before .args in
+    let s = c .before .before .before .before .before .before .before .before .before .before .before .before .before .before .args in
     let h = s .hall in
     let room : h .waiting < 64 = accepted-room (s .booking) _ (h .waiting) (c .before .before .booking-answer .result) (c .before .before .booking-answer .ensures) (c .if4 .taken) in
     search needs
 
 returns-4 : tie.Need-returns-4
 returns-4 c =
-    let s = c .before .before .before .before .before .before .before .before .before .before .before .before .before .args in
+    let s = c .before .before .before .before .before .before .before .before .before .before .before .before .before .before .args in
     let h = s .hall in
-    let u = within (h .waiting) (h .noted) (c .before .before .before .before .before .before .before .before .before .before .before .before .is-over .ensures) (c .before .before .before .before .before .before .before .before .before .before .before .if1 .left) in
+    let u = within (h .waiting) (h .noted) (h .sizes) (h .served) (c .before .before .before .before .before .before .before .before .before .before .before .before .is-over .ensures) (c .before .before .before .before .before .before .before .before .before .before .before .if1 .left) in
     let few : h .waiting ≤ 64 = u .0 in
     let fits : h .noted ≤ 1024 = u .1 in
     let long : length (h .keys) ≡ 1024 = search needs in
@@ -127,23 +127,23 @@ returns-4 c =
     let all : length (h .bookings) ≡ 64 = search (unmapped, needs) in
     let room : h .waiting < 64 = accepted-room (s .booking) _ (h .waiting) (c .before .before .booking-answer .result) (c .before .before .booking-answer .ensures) (c .if4 .taken) in
     let many : length (take (h .waiting) (h .bookings)) ≡ h .waiting = length-take-le (h .waiting) (h .bookings) (omega arith) in
-    turned-fresh (h .bookings) (h .waiting) (h .keys) (h .notes) (h .noted) (s .key) (book (s .booking)) (c .before .before .before .before .before .before .before .before .before .before .before .before .is-over .ensures) (c .before .before .before .before .before .before .before .before .before .before .before .if1 .left) long wide fits _ (c .before .before .before .before .before .before .before .place-of .ensures) (c .before .before .before .before .before .before .if2 .left) (c .before .before .before .before .before .if3 .left) _
+    turned-fresh (h .bookings) (h .waiting) (h .keys) (h .notes) (h .noted) (h .sizes) (h .served) (s .key) (book (s .booking)) (c .before .before .before .before .before .before .before .before .before .before .before .before .is-over .ensures) (c .before .before .before .before .before .before .before .before .before .before .before .if1 .left) long wide fits _ (c .before .before .before .before .before .before .before .place-of .ensures) (c .before .before .before .before .before .before .if2 .left) (c .before .before .before .before .before .if3 .left) _
     (booked (s .booking) (take (h .waiting) (h .bookings)) _ _ (c .before .before .booking-answer .result) (c .before .before .before .waits .ensures) (ap (λ z. ltb z 64) (sym many)) (c .before .before .booking-answer .ensures) (c .if4 .taken)) _
     (joined (h .bookings) (h .waiting) (s .booking) (omega arith)) _
     (noted-as (s .key) (book (s .booking)) _ (c .before .before .booking-answer .result) (c .before .booking-note .ensures) (number-accepts (c .before .before .booking-answer .result) (tt {0}) (c .if4 .taken))) 0 refl
 
 returns-5 : tie.Need-returns-5
 returns-5 c =
-    let s = c .before .before .before .before .before .before .before .before .before .before .before .before .before .args in
+    let s = c .before .before .before .before .before .before .before .before .before .before .before .before .before .before .args in
     let h = s .hall in
-    let u = within (h .waiting) (h .noted) (c .before .before .before .before .before .before .before .before .before .before .before .before .is-over .ensures) (c .before .before .before .before .before .before .before .before .before .before .before .if1 .left) in
+    let u = within (h .waiting) (h .noted) (h .sizes) (h .served) (c .before .before .before .before .before .before .before .before .before .before .before .before .is-over .ensures) (c .before .before .before .before .before .before .before .before .before .before .before .if1 .left) in
     let few : h .waiting ≤ 64 = u .0 in
     let fits : h .noted ≤ 1024 = u .1 in
     let long : length (h .keys) ≡ 1024 = search needs in
     let wide : length (h .notes) ≡ 1024 = search (unmapped, needs) in
     let all : length (h .bookings) ≡ 64 = search (unmapped, needs) in
     let many : length (take (h .waiting) (h .bookings)) ≡ h .waiting = length-take-le (h .waiting) (h .bookings) (omega arith) in
-    turned-fresh (h .bookings) (h .waiting) (h .keys) (h .notes) (h .noted) (s .key) (book (s .booking)) (c .before .before .before .before .before .before .before .before .before .before .before .before .is-over .ensures) (c .before .before .before .before .before .before .before .before .before .before .before .if1 .left) long wide fits _ (c .before .before .before .before .before .before .before .place-of .ensures) (c .before .before .before .before .before .before .if2 .left) (c .before .before .before .before .before .if3 .left) _
+    turned-fresh (h .bookings) (h .waiting) (h .keys) (h .notes) (h .noted) (h .sizes) (h .served) (s .key) (book (s .booking)) (c .before .before .before .before .before .before .before .before .before .before .before .before .is-over .ensures) (c .before .before .before .before .before .before .before .before .before .before .before .if1 .left) long wide fits _ (c .before .before .before .before .before .before .before .place-of .ensures) (c .before .before .before .before .before .before .if2 .left) (c .before .before .before .before .before .if3 .left) _
     (not-booked (s .booking) (take (h .waiting) (h .bookings)) _ _ (c .before .before .booking-answer .result) (c .before .before .before .waits .ensures) (ap (λ z. ltb z 64) (sym many)) (c .before .before .booking-answer .ensures) (ne-eqb _ _ (c .if4 .left))) _
     (stand (h .bookings) (h .waiting) (take (h .waiting) (h .bookings)) (omega arith) refl) _
     (noted-as (s .key) (book (s .booking)) _ (c .before .before .booking-answer .result) (c .before .booking-note .ensures) (number-refuses (c .before .before .booking-answer .result) (tt {0}) (ne-eqb _ _ (c .if4 .left)))) (c .before .before .booking-answer .result) (number-refuses (c .before .before .booking-answer .result) (tt {0}) (ne-eqb _ _ (c .if4 .left)))
@@ -165,7 +165,7 @@ yilgashe-hall-book-spec =
     mul-out
     element-write-out
     booking-note-requires
-    mul-t24
+    mul-t26
     element-set-from-out
     add-out
     mul-booking

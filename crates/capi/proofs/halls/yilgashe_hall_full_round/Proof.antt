@@ -1,13 +1,11 @@
--- A code that is no kind, the hall over its limits, or what the full round found, and those who stay.
+-- 13, the hall over its limits, a code that is no kind, or what the full round found, and those who stay.
 use borrow.Author.Needs.{needs}
 use mathlib.Core.Path.{_≡_, refl, sym, _∙_}
 use lib.ListN.{length, take}
 use Rattle.base.proofs.Arrays.{unmapped}
 use Rattle.roster.specs.Roster.{ofRules}
-use Rattle.hall.specs.Hall.{hallOf}
-use Rattle.capi.specs.Searches.{sheets}
-use Rattle.capi.specs.Halls.{fullCall}
-use Rattle.capi.proofs.HallRounds.{over-told, round-told, no-kind-told, kinds-told, terms-told}
+use Rattle.hall.specs.Rounds.{full}
+use Rattle.capi.proofs.HallRounds.{game-told, brought, full-away, no-kind-told, kinds-told, terms-told}
 use Rattle.capi.proofs.halls.yilgashe_hall_full_round.Statement.{statement}
 use Rattle.capi.proofs.halls.yilgashe_hall_full_round.Tie as tie
 
@@ -15,24 +13,29 @@ use Rattle.capi.proofs.halls.yilgashe_hall_full_round.Tie as tie
 places : (c : tie.Start) → length (c .args .hall .bookings) ≡ 64
 places c = search (unmapped, needs)
 
-has-no-kind-requires : tie.Need-has-no-kind-requires
-has-no-kind-requires c κs = search needs
-
-returns : tie.Need-returns
-returns c =
-    let a = c .before .before .before .before .before .before .before .before .before .args in
-    let r = ofRules (a .ids .now) (a .ratings .now) (a .parties .now) (a .roles .now) (a .regions .now) in
-    no-kind-told (hallOf (a .hall)) (a .sizes) (a .rules) (a .objectives) (a .clock) r (a .players .now) (a .qualities .now) (a .hall) refl (sym (c .before .has-no-kind .ensures) ∙ c .if1 .taken)
-
 is-over-requires : tie.Need-is-over-requires
 is-over-requires c κs = search needs
 
-returns-2 : tie.Need-returns-2
-returns-2 c =
+round-answer-requires : tie.Need-round-answer-requires
+round-answer-requires c κs = search needs
+
+returns : tie.Need-returns
+returns c =
     let a = c .before .before .before .before .before .before .before .before .before .before .before .args in
     let r = ofRules (a .ids .now) (a .ratings .now) (a .parties .now) (a .roles .now) (a .regions .now) in
-    let call = fullCall (a .sizes) (a .rules) (a .objectives) (a .clock) r (sheets (a .players .now) (a .qualities .now)) in
-    kinds-told (hallOf (a .hall)) (a .sizes) (a .rules) (a .objectives) (a .clock) r (a .players .now) (a .qualities .now) (sym (c .before .before .before .has-no-kind .ensures) ∙ c .before .before .if1 .left) (over-told (a .hall) call (c .before .is-over .ensures) (c .if2 .taken))
+    full-away (a .hall) (a .game) (a .rules) (a .objectives) (a .clock) r (a .players .now) (a .qualities .now) (c .before .before .is-over .ensures) (c .before .round-answer .result) (c .before .round-answer .ensures) (c .if1 .taken)
+
+has-no-kind-requires : tie.Need-has-no-kind-requires
+has-no-kind-requires c κs = search needs
+
+returns-2 : tie.Need-returns-2
+returns-2 c =
+    let a = c .before .before .before .before .before .before .before .before .before .before .before .before .before .args in
+    let r = ofRules (a .ids .now) (a .ratings .now) (a .parties .now) (a .roles .now) (a .regions .now) in
+    no-kind-told (a .hall) (a .game) (a .rules) (a .objectives) (a .clock) r (a .players .now) (a .qualities .now) (c .before .before .before .before .is-over .ensures) (c .before .before .before .round-answer .result) (c .before .before .before .round-answer .ensures) (c .before .before .if1 .left) (sym (c .before .has-no-kind .ensures) ∙ c .if2 .taken)
+
+sizes-of-requires : tie.Need-sizes-of-requires
+sizes-of-requires c κs = search needs
 
 constraints-of-requires : tie.Need-constraints-of-requires
 constraints-of-requires c κs = search needs
@@ -54,20 +57,23 @@ same-length-2 c = search needs
 
 returns-3 : tie.Need-returns-3
 returns-3 c =
-    let a = c .before .before .before .before .before .before .before .before .before .before .before .before .before .before .before .before .before .before .before .before .before .before .before .before .args in
+    let a = c .before .before .before .before .before .before .before .before .before .before .before .before .before .before .before .before .before .before .before .before .before .before .before .before .before .before .before .args in
     let r = ofRules (a .ids .now) (a .ratings .now) (a .parties .now) (a .roles .now) (a .regions .now) in
-    let call = fullCall (a .sizes) (a .rules) (a .objectives) (a .clock) r (sheets (a .players .now) (a .qualities .now)) in
-    let found = terms-told (hallOf (a .hall)) (a .sizes) (a .rules) (a .objectives) (a .clock) r (a .players .now) (a .qualities .now) (take (a .hall .waiting) (a .hall .bookings)) (c .before .before .before .before .before .before .before .before .before .before .before .constraints-of .ensures) (c .before .before .before .before .before .before .before .before .before .before .objectives .ensures) (c .before .before .before .before .before .before .before .full-handed .ensures) in
-    kinds-told (hallOf (a .hall)) (a .sizes) (a .rules) (a .objectives) (a .clock) r (a .players .now) (a .qualities .now) (sym (c .before .before .before .before .before .before .before .before .before .before .before .before .before .before .before .before .has-no-kind .ensures) ∙ c .before .before .before .before .before .before .before .before .before .before .before .before .before .before .before .if1 .left) (round-told (a .hall) call (c .before .before .before .before .before .before .before .before .before .before .before .before .before .before .is-over .ensures) (c .before .before .before .before .before .before .before .before .before .before .before .before .before .if2 .left) (places (c .before .before .before .before .before .before .before .before .before .before .before .before .before .before .before .before .before .before .before .before .before .before .before .before)) (c .before .before .before .before .before .before .before .full-handed .result) found _ (c .before .without-seated .ensures) refl)
+    let m = full (brought (a .hall) (a .game) (a .rules) (a .objectives) (a .clock) r (a .players .now) (a .qualities .now)) in
+    let found = terms-told (a .hall) (a .game) (a .rules) (a .objectives) (a .clock) r (a .players .now) (a .qualities .now) (c .before .before .before .before .before .before .before .before .before .before .before .before .sizes-of .result) (take (a .hall .waiting) (a .hall .bookings)) (c .before .before .before .before .before .before .before .before .before .before .before .constraints-of .ensures) (c .before .before .before .before .before .before .before .before .before .before .objectives .ensures) (c .before .before .before .before .before .before .before .full-handed .ensures) in
+    kinds-told (a .hall) (a .game) (a .rules) (a .objectives) (a .clock) r (a .players .now) (a .qualities .now) (sym (c .before .before .before .before .before .before .before .before .before .before .before .before .before .before .before .has-no-kind .ensures) ∙ c .before .before .before .before .before .before .before .before .before .before .before .before .before .before .if2 .left)
+    (game-told (a .hall) (a .game) m (a .clock) (a .players .now) (a .qualities .now) (c .before .before .before .before .before .before .before .before .before .before .before .before .before .before .before .before .before .before .is-over .ensures) (c .before .before .before .before .before .before .before .before .before .before .before .before .before .before .before .before .before .round-answer .result) (c .before .before .before .before .before .before .before .before .before .before .before .before .before .before .before .before .before .round-answer .ensures) (c .before .before .before .before .before .before .before .before .before .before .before .before .before .before .before .before .if1 .left) (places (c .before .before .before .before .before .before .before .before .before .before .before .before .before .before .before .before .before .before .before .before .before .before .before .before .before .before .before)) (c .before .before .before .before .before .before .before .before .before .before .before .before .sizes-of .ensures) (c .before .before .before .before .before .before .before .full-handed .result) found _ (c .before .without-seated .ensures) refl refl refl)
 
 pub yilgashe-hall-full-round-spec : {M : Type 1} → statement M
 yilgashe-hall-full-round-spec =
     tie.close
     (tie.spec
-    has-no-kind-requires
-    returns
     is-over-requires
+    round-answer-requires
+    returns
+    has-no-kind-requires
     returns-2
+    sizes-of-requires
     constraints-of-requires
     objectives-requires
     full-handed-requires

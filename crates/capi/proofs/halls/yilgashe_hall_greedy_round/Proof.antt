@@ -1,11 +1,11 @@
--- The hall over its limits, or what the greedy round found, and those who stay.
+-- 13, the hall over its limits, or what the greedy round found, and those who stay.
 use borrow.Author.Needs.{needs}
 use mathlib.Core.Path.{_≡_, refl}
 use lib.ListN.{length}
 use Rattle.base.proofs.Arrays.{unmapped}
 use Rattle.roster.specs.Roster.{ofRatings}
-use Rattle.hall.specs.Rounds.{greedy, calling}
-use Rattle.capi.proofs.HallRounds.{over-told, round-told}
+use Rattle.hall.specs.Rounds.{greedy}
+use Rattle.capi.proofs.HallRounds.{game-away, game-told}
 use Rattle.capi.proofs.halls.yilgashe_hall_greedy_round.Statement.{statement}
 use Rattle.capi.proofs.halls.yilgashe_hall_greedy_round.Tie as tie
 
@@ -16,12 +16,17 @@ places c = search (unmapped, needs)
 is-over-requires : tie.Need-is-over-requires
 is-over-requires c κs = search needs
 
+round-answer-requires : tie.Need-round-answer-requires
+round-answer-requires c κs = search needs
+
 returns : tie.Need-returns
 returns c =
-    let a = c .before .before .before .before .before .before .args in
-    let r = ofRatings (a .ids .now) (a .ratings .now) in
-    let call = calling (greedy (a .sizes) r) (a .clock) (a .players .now) (a .qualities .now) in
-    over-told (a .hall) call (c .before .is-over .ensures) (c .if1 .taken)
+    let a = c .before .before .before .before .before .before .before .before .args in
+    let m = greedy (ofRatings (a .ids .now) (a .ratings .now)) in
+    game-away (a .hall) (a .game) m (a .clock) (a .players .now) (a .qualities .now) (c .before .before .is-over .ensures) (c .before .round-answer .result) (c .before .round-answer .ensures) (c .if1 .taken)
+
+sizes-of-requires : tie.Need-sizes-of-requires
+sizes-of-requires c κs = search needs
 
 greedy-handed-requires : tie.Need-greedy-handed-requires
 greedy-handed-requires c κs = search needs
@@ -37,17 +42,18 @@ same-length-2 c = search needs
 
 returns-2 : tie.Need-returns-2
 returns-2 c =
-    let a = c .before .before .before .before .before .before .before .before .before .before .before .before .before .before .before .before .before .args in
-    let r = ofRatings (a .ids .now) (a .ratings .now) in
-    let call = calling (greedy (a .sizes) r) (a .clock) (a .players .now) (a .qualities .now) in
-    round-told (a .hall) call (c .before .before .before .before .before .before .before .before .before .before .before .before .is-over .ensures) (c .before .before .before .before .before .before .before .before .before .before .before .if1 .left) (places (c .before .before .before .before .before .before .before .before .before .before .before .before .before .before .before .before .before)) (c .before .before .before .before .before .before .before .greedy-handed .result) (c .before .before .before .before .before .before .before .greedy-handed .ensures) _ (c .before .without-seated .ensures) refl
+    let a = c .before .before .before .before .before .before .before .before .before .before .before .before .before .before .before .before .before .before .before .before .args in
+    let m = greedy (ofRatings (a .ids .now) (a .ratings .now)) in
+    game-told (a .hall) (a .game) m (a .clock) (a .players .now) (a .qualities .now) (c .before .before .before .before .before .before .before .before .before .before .before .before .before .before .is-over .ensures) (c .before .before .before .before .before .before .before .before .before .before .before .before .before .round-answer .result) (c .before .before .before .before .before .before .before .before .before .before .before .before .before .round-answer .ensures) (c .before .before .before .before .before .before .before .before .before .before .before .before .if1 .left) (places (c .before .before .before .before .before .before .before .before .before .before .before .before .before .before .before .before .before .before .before .before)) (c .before .before .before .before .before .before .before .before .before .before .sizes-of .ensures) (c .before .before .before .before .before .before .before .greedy-handed .result) (c .before .before .before .before .before .before .before .greedy-handed .ensures) _ (c .before .without-seated .ensures) refl refl refl
 
 pub yilgashe-hall-greedy-round-spec : {M : Type 1} → statement M
 yilgashe-hall-greedy-round-spec =
     tie.close
     (tie.spec
     is-over-requires
+    round-answer-requires
     returns
+    sizes-of-requires
     greedy-handed-requires
     without-seated-requires
     same-length

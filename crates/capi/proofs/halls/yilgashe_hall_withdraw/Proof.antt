@@ -9,32 +9,36 @@ use Rattle.hall.proofs.Turns.{turned-over, turned-seen, turned-full, turned-fre
 use Rattle.capi.proofs.halls.yilgashe_hall_withdraw.Statement.{statement}
 use Rattle.capi.proofs.halls.yilgashe_hall_withdraw.Tie as tie
 
+-- the notes are an array of 1,024
+places : (c : tie.Start) → length (c .args .hall .notes) ≡ 1024
+places c = search (unmapped, needs)
+
 is-over-requires : tie.Need-is-over-requires
 is-over-requires c κs = search needs
 
 returns : tie.Need-returns
 returns c =
-    let s = c .before .before .args in
+    let s = c .before .before .before .args in
     let h = s .hall in
-    turned-over (h .bookings) (h .waiting) (h .keys) (h .notes) (h .noted) (s .key) (withdraw (s .player)) (c .before .is-over .ensures) (c .if1 .taken)
+    turned-over (h .bookings) (h .waiting) (h .keys) (h .notes) (h .noted) (h .sizes) (h .served) (s .key) (withdraw (s .player)) (c .before .is-over .ensures) (c .if1 .taken)
 
 place-of-requires : tie.Need-place-of-requires
 place-of-requires c κs = search needs
 
 mul-note : tie.Need-mul-note
 mul-note c =
-    let s = c .before .before .before .before .before .before .before .args in
+    let s = c .before .before .before .before .before .before .before .before .args in
     let h = s .hall in
-    let u = within (h .waiting) (h .noted) (c .before .before .before .before .before .before .is-over .ensures) (c .before .before .before .before .before .if1 .left) in
+    let u = within (h .waiting) (h .noted) (h .sizes) (h .served) (c .before .before .before .before .before .before .is-over .ensures) (c .before .before .before .before .before .if1 .left) in
     let few : h .waiting ≤ 64 = u .0 in
     let fits : h .noted ≤ 1024 = u .1 in
     search needs
 
 element-copy-out-note : tie.Need-element-copy-out-note
 element-copy-out-note c =
-    let s = c .before .before .before .before .before .before .before .args in
+    let s = c .before .before .before .before .before .before .before .before .args in
     let h = s .hall in
-    let u = within (h .waiting) (h .noted) (c .before .before .before .before .before .before .is-over .ensures) (c .before .before .before .before .before .if1 .left) in
+    let u = within (h .waiting) (h .noted) (h .sizes) (h .served) (c .before .before .before .before .before .before .is-over .ensures) (c .before .before .before .before .before .if1 .left) in
     let few : h .waiting ≤ 64 = u .0 in
     let fits : h .noted ≤ 1024 = u .1 in
     search needs
@@ -44,25 +48,25 @@ heard-withdrawal-requires c κs = search needs
 
 returns-2 : tie.Need-returns-2
 returns-2 c =
-    let s = c .before .before .before .before .before .before .before .before .before .args in
+    let s = c .before .before .before .before .before .before .before .before .before .before .args in
     let h = s .hall in
-    let u = within (h .waiting) (h .noted) (c .before .before .before .before .before .before .before .before .is-over .ensures) (c .before .before .before .before .before .before .before .if1 .left) in
+    let u = within (h .waiting) (h .noted) (h .sizes) (h .served) (c .before .before .before .before .before .before .before .before .is-over .ensures) (c .before .before .before .before .before .before .before .if1 .left) in
     let few : h .waiting ≤ 64 = u .0 in
     let fits : h .noted ≤ 1024 = u .1 in
     let long : length (h .keys) ≡ 1024 = search needs in
     let wide : length (h .notes) ≡ 1024 = search (unmapped, needs) in
-    turned-seen (h .bookings) (h .waiting) (h .keys) (h .notes) (h .noted) (s .key) (withdraw (s .player)) (c .before .before .before .before .before .before .before .before .is-over .ensures) (c .before .before .before .before .before .before .before .if1 .left) long wide fits _ (c .before .before .before .place-of .ensures) (c .before .before .if2 .taken) (c .heard-withdrawal .result) (c .heard-withdrawal .ensures)
+    turned-seen (h .bookings) (h .waiting) (h .keys) (h .notes) (h .noted) (h .sizes) (h .served) (s .key) (withdraw (s .player)) (c .before .before .before .before .before .before .before .before .is-over .ensures) (c .before .before .before .before .before .before .before .if1 .left) long wide fits _ (c .before .before .before .place-of .ensures) (c .before .before .if2 .taken) (c .heard-withdrawal .result) (c .heard-withdrawal .ensures)
 
 returns-3 : tie.Need-returns-3
 returns-3 c =
-    let s = c .before .before .before .before .before .before .before .before .args in
+    let s = c .before .before .before .before .before .before .before .before .before .args in
     let h = s .hall in
-    let u = within (h .waiting) (h .noted) (c .before .before .before .before .before .before .before .is-over .ensures) (c .before .before .before .before .before .before .if1 .left) in
+    let u = within (h .waiting) (h .noted) (h .sizes) (h .served) (c .before .before .before .before .before .before .before .is-over .ensures) (c .before .before .before .before .before .before .if1 .left) in
     let few : h .waiting ≤ 64 = u .0 in
     let fits : h .noted ≤ 1024 = u .1 in
     let long : length (h .keys) ≡ 1024 = search needs in
     let wide : length (h .notes) ≡ 1024 = search (unmapped, needs) in
-    turned-full (h .bookings) (h .waiting) (h .keys) (h .notes) (h .noted) (s .key) (withdraw (s .player)) (c .before .before .before .before .before .before .before .is-over .ensures) (c .before .before .before .before .before .before .if1 .left) long wide fits _ (c .before .before .place-of .ensures) (c .before .if2 .left) (c .if3 .taken)
+    turned-full (h .bookings) (h .waiting) (h .keys) (h .notes) (h .noted) (h .sizes) (h .served) (s .key) (withdraw (s .player)) (c .before .before .before .before .before .before .before .is-over .ensures) (c .before .before .before .before .before .before .if1 .left) long wide fits _ (c .before .before .place-of .ensures) (c .before .if2 .left) (c .if3 .taken)
 
 waits-requires : tie.Need-waits-requires
 waits-requires c κs = search needs
@@ -79,8 +83,8 @@ element-write-out c = search needs
 withdrawal-note-requires : tie.Need-withdrawal-note-requires
 withdrawal-note-requires c κs = search needs
 
-mul-t25 : tie.Need-mul-t25
-mul-t25 c = search needs
+mul-t27 : tie.Need-mul-t27
+mul-t27 c = search needs
 
 element-set-from-out : tie.Need-element-set-from-out
 element-set-from-out c = search needs
@@ -93,14 +97,14 @@ without-first-requires c κs = search needs
 
 returns-4 : tie.Need-returns-4
 returns-4 c =
-    let s = c .before .before .before .before .before .before .before .before .before .before .before .before .before .before .args in
+    let s = c .before .before .before .before .before .before .before .before .before .before .before .before .before .before .before .args in
     let h = s .hall in
-    let u = within (h .waiting) (h .noted) (c .before .before .before .before .before .before .before .before .before .before .before .before .before .is-over .ensures) (c .before .before .before .before .before .before .before .before .before .before .before .before .if1 .left) in
+    let u = within (h .waiting) (h .noted) (h .sizes) (h .served) (c .before .before .before .before .before .before .before .before .before .before .before .before .before .is-over .ensures) (c .before .before .before .before .before .before .before .before .before .before .before .before .if1 .left) in
     let few : h .waiting ≤ 64 = u .0 in
     let fits : h .noted ≤ 1024 = u .1 in
     let long : length (h .keys) ≡ 1024 = search needs in
-    let wide : length (h .notes) ≡ 1024 = search (unmapped, needs) in
-    turned-fresh (h .bookings) (h .waiting) (h .keys) (h .notes) (h .noted) (s .key) (withdraw (s .player)) (c .before .before .before .before .before .before .before .before .before .before .before .before .before .is-over .ensures) (c .before .before .before .before .before .before .before .before .before .before .before .before .if1 .left) long wide fits _ (c .before .before .before .before .before .before .before .before .place-of .ensures) (c .before .before .before .before .before .before .before .if2 .left) (c .before .before .before .before .before .before .if3 .left) _
+    let wide : length (h .notes) ≡ 1024 = places (c .before .before .before .before .before .before .before .before .before .before .before .before .before .before .before) in
+    turned-fresh (h .bookings) (h .waiting) (h .keys) (h .notes) (h .noted) (h .sizes) (h .served) (s .key) (withdraw (s .player)) (c .before .before .before .before .before .before .before .before .before .before .before .before .before .is-over .ensures) (c .before .before .before .before .before .before .before .before .before .before .before .before .if1 .left) long wide fits _ (c .before .before .before .before .before .before .before .before .place-of .ensures) (c .before .before .before .before .before .before .before .if2 .left) (c .before .before .before .before .before .before .if3 .left) _
     (withdrawn (s .player) (take (h .waiting) (h .bookings)) _ (c .before .before .before .withdrawal-answer .result) (c .before .before .before .before .waits .ensures) (c .before .before .before .withdrawal-answer .ensures)) _
     (c .before .without-first .ensures) _
     (noted-as (s .key) (withdraw (s .player)) _ (c .before .before .before .withdrawal-answer .result) (c .before .before .withdrawal-note .ensures) refl) (c .before .before .before .withdrawal-answer .result) refl
@@ -122,7 +126,7 @@ yilgashe-hall-withdraw-spec =
     mul-out
     element-write-out
     withdrawal-note-requires
-    mul-t25
+    mul-t27
     element-set-from-out
     add-out
     without-first-requires

@@ -10,7 +10,7 @@ use Rattle.base.specs.Lists.{member}
 use Rattle.base.proofs.Arrays.{unmapped}
 use Rattle.base.proofs.Loops.{keep-on-of, keep-skip-of}
 use Rattle.hall.specs.Hall.{withoutGuests}
-use Rattle.hall.proofs.WaitLaws.{noBooking, stayed}
+use Rattle.hall.proofs.WaitLaws.{noBooking, kept}
 use Rattle.hall.proofs.waiting.without_seated.Statement.{statement}
 use Rattle.hall.proofs.waiting.without_seated.Tie as tie
 
@@ -88,7 +88,7 @@ returns c =
     let s = a .before .before .before .args in
     let l = a .loop in
     let w : length (s .t1) ≡ 64 = search (unmapped, needs) in
-    stayed (s .t1) (s .n) _ w (a .before .at-most .ensures) (take (s .seats) (s .players .now)) (l .stay) (l .m) (l .i) (l .inv .2) (omega arith) (omega arith) (omega arith) (l .inv .3)
+    kept (s .t1) (s .n) _ w (a .before .at-most .ensures) (λ b. not (member (b .player) (take (s .seats) (s .players .now)))) (l .stay) (l .m) (l .i) (l .inv .2) (omega arith) (omega arith) (omega arith) (l .inv .3)
 
 pub without-seated-spec : {M : Type 1} → statement M
 without-seated-spec =
