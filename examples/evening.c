@@ -5,9 +5,9 @@
 #include <stdio.h>
 
 #define MINUTE UINT64_C(60000000000)
-enum { GUESTS = 5 };
-static const uint64_t ids[GUESTS] = {1, 2, 3, 4, 5};
-static const double ratings[GUESTS] = {1000.0, 1280.0, 1010.0, 1090.0, 1150.0};
+enum { GUESTS = 8 };
+static const uint64_t ids[GUESTS] = {1, 2, 3, 4, 5, 6, 7, 8};
+static const double ratings[GUESTS] = {1000.0, 1280.0, 1010.0, 1090.0, 1150.0, 1200.0, 1300.0, 1180.0};
 
 /* Says a call's answer, and gives back the hall that it left. */
 static yilgashe_hall told(uint64_t key, const char *does, yilgashe_keyed answer)
@@ -16,34 +16,59 @@ static yilgashe_hall told(uint64_t key, const char *does, yilgashe_keyed answer)
     return answer.hall;
 }
 
-static yilgashe_hall book(yilgashe_hall hall, uint64_t key, uint64_t guest, uint64_t minute)
+static yilgashe_hall book(yilgashe_hall hall, uint64_t key, uint64_t guest, uint8_t game)
 {
-    yilgashe_booking booking = {guest, minute * MINUTE, ratings[guest - 1], 0, 0};
+    const yilgashe_booking booking = {guest, guest * MINUTE, ratings[guest - 1], 0, 0, game};
     return told(key, "books", yilgashe_hall_book(hall, key, booking));
+}
+
+static void say_team(const char *before, const uint64_t *players, size_t size)
+{
+    size_t n;
+    printf("%s[", before);
+    for (n = 0; n < size; n++) {
+        printf("%s%" PRIu64, n == 0 ? "" : ", ", players[n]);
+    }
+    printf("]");
+}
+
+/* Says which game was served and who plays, and gives back the hall that the dispatch left. */
+static yilgashe_hall dispatch(yilgashe_hall hall, uint64_t minute)
+{
+    uint64_t players[YILGASHE_MIN_SHEET];
+    double qualities[YILGASHE_MIN_SHEET];
+    const yilgashe_rounded round = yilgashe_hall_dispatch(hall, minute * MINUTE, ids, GUESTS, ratings, GUESTS, players,
+                                                          YILGASHE_MIN_SHEET, qualities, YILGASHE_MIN_SHEET);
+    size_t m;
+    if (round.served == YILGASHE_NONE_SERVED) {
+        puts(round.refusal == YILGASHE_ACCEPTED ? "no game has enough" : yilgashe_refusal_word(round.refusal));
+    }
+    for (m = 0; m < round.count; m++) {
+        const yilgashe_team_composition sizes = round.hall.sizes[round.served];
+        const uint64_t *seats = players + m * (sizes.a + sizes.b);
+        printf("game %u", round.served);
+        say_team(": ", seats, sizes.a);
+        say_team(" against ", seats + sizes.a, sizes.b);
+        printf(", quality %.2f\n", qualities[m]);
+    }
+    return round.hall;
 }
 
 int main(void)
 {
-    const yilgashe_team_composition sizes = {2, 2};
-    uint64_t guest, players[YILGASHE_MIN_SHEET];
-    double qualities[YILGASHE_MIN_SHEET];
-    yilgashe_hall hall = {0}; /* nobody waits */
-    yilgashe_rounded round;
-    size_t m;
+    const yilgashe_games games = {{{2, 2}, {1, 1}}}; /* game 0 and game 1 */
+    yilgashe_hall hall = yilgashe_hall_empty(games);
+    uint64_t guest;
 
     for (guest = 1; guest <= GUESTS; guest++) {
-        hall = book(hall, 100 + guest, guest, guest);
+        hall = book(hall, 100 + guest, guest, guest <= 4 ? 0 : 1);
     }
-    hall = book(hall, 103, 3, 3); /* the phone lost the answer and sends it again */
-    hall = book(hall, 106, 1, 6);
-    hall = told(107, "leaves", yilgashe_hall_withdraw(hall, 107, 5));
-    round = yilgashe_hall_greedy_round(hall, sizes, 10 * MINUTE, ids, GUESTS, ratings, GUESTS, players, YILGASHE_MIN_SHEET,
-                                       qualities, YILGASHE_MIN_SHEET);
-    for (m = 0; m < round.count; m++) {
-        const uint64_t *seats = players + 4 * m;
-        printf("table: [%" PRIu64 ", %" PRIu64 "] against [%" PRIu64 ", %" PRIu64 "], quality %.2f\n", seats[0], seats[1], seats[2],
-               seats[3], qualities[m]);
-    }
-    printf("still waiting: %zu\n", round.hall.waiting);
+    hall = book(hall, 103, 3, 0); /* the phone lost the answer and sends it again */
+    hall = book(hall, 109, 1, 1); /* waits for game 0 */
+    hall = told(110, "leaves", yilgashe_hall_withdraw(hall, 110, 5));
+    hall = dispatch(hall, 10);
+    hall = dispatch(hall, 11);
+    hall = dispatch(hall, 12);
+    printf("still waiting: %zu\n", hall.waiting);
     return 0;
 }

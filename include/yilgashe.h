@@ -11,7 +11,8 @@
  *
  * STATE. The library keeps none. A queue or a hall is a struct that the caller owns: it goes in by value, and the answer carries
  * the new one. Nothing is allocated and nothing is to be freed, and any number of threads may call at once. A refused call hands
- * the queue or the hall back with the lengths that it stated and what these hold, save for what a hall notes with a key.
+ * the queue or the hall back with the lengths that it stated and what these hold, save for what a hall notes with a key; and every call
+ * hands back a hall's sizes as it got them.
  *
  * SLICES. A list crosses as a pointer and the number of its elements, in this order: `const uint64_t *ids, size_t ids_len`. The
  * proofs take for granted, and the caller sees to it, that
@@ -27,7 +28,7 @@
  * FLOATS. The proofs are about IEEE 754 binary64. The caller leaves the floating-point environment as it is by default: rounding to
  * nearest, flush-to-zero and denormals-are-zero off. With denormals taken for zero, yilgashe_latency_satisfied of 5e-324 turns.
  *
- * STACK. A hall is 27,152 bytes, and calls pass it by value. Leave a call 512 KB of stack.
+ * STACK. A hall is 27,288 bytes, and calls pass it by value. Leave a call 512 KB of stack.
  */
 #ifndef YILGASHE_H
 #define YILGASHE_H
@@ -45,36 +46,40 @@ extern "C" {
 /*
  * What a call says no with. A field `refusal`, and a note's `answer`, holds one of these numbers.
  *
- * Searches, generators and rounds check 1, 2, 3, 4, 12, 6, 5 in this order, but the exhaustive generator checks 3 after 6.
- * Scores, constraints and selections check 1, 2, 4, 5. The queue's functions and times refuse with 1 and 4 alone. A booking checks
- * 1, 7, 8, 4, 9, 10; a withdrawal 1, 7, 8, 11. A call checks just what it is given.
+ * Searches and generators check 1, 2, 3, 4, 12, 6, 5 in this order, but the exhaustive generator checks 3 after 6. A round of a game
+ * checks 13, 1, 2, 3, 4, 6, 5; a dispatch, which names no game, 1, 2, 3, 4. Scores, constraints and selections check 1, 2, 4, 5. The
+ * queue's functions and times refuse with 1 and 4 alone. A booking checks 1, 7, 8, 13, 4, 9, 10; a withdrawal 1, 7, 8, 11. A call checks
+ * just what it is given.
  */
 enum yilgashe_refusal {
     YILGASHE_ACCEPTED = 0,
-    /* over limit: a list is longer than the limits below allow, or a soft objective's kind is over 2 */
+    /* over limit: a list is longer than the limits below allow, a soft objective's kind is over 2, or a hall has a game with a size over 8,
+       used or not, or a `served` that is neither 0 to 7 nor YILGASHE_NONE_SERVED */
     YILGASHE_OVER_LIMIT = 1,
     /* bad roster: columns of unequal length, a guest in two rows, a region code over 4 in a row or a region pair */
     YILGASHE_BAD_ROSTER = 2,
     /* short sheet: fewer than 64 places for guests or for qualities; for the exhaustive generator, fewer than the listing fills */
     YILGASHE_SHORT_SHEET = 3,
-    /* clock: a clock or a joined time above YILGASHE_MAX_TIME */
+    /* clock: a clock or a joined time above YILGASHE_MAX_TIME; in a round, the joined time of anyone who waits, for whatever game */
     YILGASHE_CLOCK = 4,
     /* unranked: two or more scores or ratings are to be ranked, and one is NaN */
     YILGASHE_UNRANKED = 5,
-    /* too wide: exhaustive listing or full round with more than 20 entries */
+    /* too wide: exhaustive listing with more than 20 entries, or full round of a game that more than 20 wait for */
     YILGASHE_TOO_WIDE = 6,
     /* key clash: the key is noted for another kind of call or another guest */
     YILGASHE_KEY_CLASH = 7,
     /* book full: an unknown key, and 1,024 keys are noted */
     YILGASHE_BOOK_FULL = 8,
-    /* already waiting: a booking for a waiting guest */
+    /* already waiting: a booking for a waiting guest, whatever the games */
     YILGASHE_ALREADY_WAITING = 9,
-    /* hall full: 64 are waiting */
+    /* hall full: 64 are waiting, for all games together */
     YILGASHE_HALL_FULL = 10,
     /* not waiting: a withdrawal of a guest who isn't waiting */
     YILGASHE_NOT_WAITING = 11,
     /* no seats: the nearest generator with two teams of 0 */
-    YILGASHE_NO_SEATS = 12
+    YILGASHE_NO_SEATS = 12,
+    /* no such game: a booking or a round for a game number over 7 */
+    YILGASHE_NO_SUCH_GAME = 13
 };
 
 /* A refusal's word, "accepted" for 0, "?" for a number that is none. */
@@ -82,7 +87,7 @@ static inline const char *yilgashe_refusal_word(unsigned refusal)
 {
     static const char *const words[] = {
         "accepted",  "over limit", "bad roster",      "short sheet", "clock",       "unranked", "too wide",
-        "key clash", "book full",  "already waiting", "hall full",   "not waiting", "no seats",
+        "key clash", "book full",  "already waiting", "hall full",   "not waiting", "no seats", "no such game",
     };
     return refusal < sizeof words / sizeof *words ? words[refusal] : "?";
 }
@@ -90,8 +95,9 @@ static inline const char *yilgashe_refusal_word(unsigned refusal)
 /* ---- Limits ------------------------------------------------------------------------------------------------------------------ */
 
 enum yilgashe_limit {
-    YILGASHE_MAX_WAITING = 64,     /* entries of a queue, bookings that wait in a hall */
+    YILGASHE_MAX_WAITING = 64,     /* entries of a queue, bookings that wait in a hall for all games together */
     YILGASHE_MAX_KEYS = 1024,      /* keys that a hall notes; none is ever dropped */
+    YILGASHE_MAX_GAMES = 8,        /* games of a hall, with the numbers 0 to 7 */
     YILGASHE_MAX_ROSTER = 128,     /* rows of a roster column */
     YILGASHE_MAX_TEAM = 8,         /* guests of a team */
     YILGASHE_MAX_WIDTH = 32,       /* a beam's width */
@@ -99,7 +105,7 @@ enum yilgashe_limit {
     YILGASHE_MAX_PAIRS = 16,       /* region pairs of a call */
     YILGASHE_MAX_OBJECTIVES = 8,   /* soft objectives of a call */
     YILGASHE_MAX_CANDIDATES = 64,  /* candidates of a selection */
-    YILGASHE_MAX_LISTED = 20,      /* entries of an exhaustive listing or a full round */
+    YILGASHE_MAX_LISTED = 20,      /* entries of an exhaustive listing, bookings for the game of a full round */
     YILGASHE_MIN_SHEET = 64        /* places of each sheet of a round, a search or the nearest generator */
 };
 
@@ -500,13 +506,27 @@ yilgashe_chosen yilgashe_best_choice(yilgashe_queue queue, yilgashe_team_composi
 
 enum yilgashe_kind { YILGASHE_BOOKING = 0, YILGASHE_WITHDRAWAL = 1 };
 
-/* What a booking brings beside its key, and what waits. Party 0 and role 0 mean none. */
+/* What stands in the place of a game's number where no game was served. */
+enum yilgashe_served { YILGASHE_NONE_SERVED = 255 };
+
+/*
+ * The sizes of the games 0 to 7, which share a hall's places and its keys. A game that is not used has sizes 0 and 0, and so has each
+ * that an initializer leaves out. Here game 0 is five against five, game 1 two against two, and the others are not used:
+ *
+ *     yilgashe_games games = {{{5, 5}, {2, 2}}};
+ */
+typedef struct yilgashe_games {
+    yilgashe_team_composition sizes[8];
+} yilgashe_games;
+
+/* What a booking brings beside its key, and what waits. Party 0 and role 0 mean none. The game is 0 to 7; one that is not used is taken too. */
 typedef struct yilgashe_booking {
     uint64_t player;
     uint64_t joined;
     double rating;
     uint64_t party;
     uint32_t role;
+    uint8_t game;
 } yilgashe_booking;
 
 /* What is noted beside a key: whom the call was for, its kind (0 a booking, 1 a withdrawal), and the refusal that it got. A note with another
@@ -518,8 +538,14 @@ typedef struct yilgashe_note {
 } yilgashe_note;
 
 /*
- * The first `waiting` bookings wait, in the order of coming. The first `noted` keys are noted, in the order of coming, each with the
- * note at its place. All zeros is the empty hall.
+ * The first `waiting` bookings wait, in the order of coming, for whatever game. The first `noted` keys are noted, in the order of coming,
+ * each with the note at its place. `sizes` are those of the eight games. `served` is the last game that a dispatch served,
+ * YILGASHE_NONE_SERVED where none was: only yilgashe_hall_dispatch changes it.
+ *
+ * Begin with yilgashe_hall_empty. All zeros is no empty hall: it is one without a game, of which game 0 was served last.
+ *
+ * More than 64 waiting or 1,024 noted, a size over 8 in any game, or a `served` of 8 to 254 is YILGASHE_OVER_LIMIT in every call. A booking
+ * for a game over 7, which no call accepts and only a hall from elsewhere can hold, keeps its place and is in no round.
  */
 typedef struct yilgashe_hall {
     yilgashe_booking bookings[64];
@@ -527,6 +553,8 @@ typedef struct yilgashe_hall {
     uint64_t keys[1024];
     yilgashe_note notes[1024];
     size_t noted;
+    yilgashe_team_composition sizes[8];
+    uint8_t served;
 } yilgashe_hall;
 
 /* The hall as a keyed call leaves it, and its answer. */
@@ -537,9 +565,10 @@ typedef struct yilgashe_keyed {
 
 /*
  * What the match of a full round must meet: the constraints that are brought and, where waiting friends are, that no seated guest has
- * a friend who is left waiting. Friends are guests who wait with the same party in their bookings, other than 0; the roster's parties
- * do not count, so a friend who stayed at home holds nobody back. Seated is seated in either team. Whoever waits twice, with two
- * parties, has the friends of both. All zeros brings nothing, and what a designated initializer leaves out is not brought:
+ * a friend who is left waiting. Friends are guests who wait for the round's game with the same party in their bookings, other than 0; the
+ * roster's parties do not count, so a friend who stayed at home, or waits for another game, holds nobody back. Seated is seated in either
+ * team. Whoever waits twice, with two parties, has the friends of both. All zeros brings nothing, and what a designated initializer leaves
+ * out is not brought:
  *
  *     yilgashe_round_rules rules = {.waiting_friends = true};
  *
@@ -550,43 +579,73 @@ typedef struct yilgashe_round_rules {
     bool waiting_friends;
 } yilgashe_round_rules;
 
-/* The hall as a round leaves it, how many matches stand on the sheets, and how many choices a full round tried. */
+/*
+ * The hall as a round leaves it, how many matches stand on the sheets, how many choices a full round tried, and which game a dispatch
+ * served: YILGASHE_NONE_SERVED where it served none or was refused, and in the answer of every other round. Where a round is refused, both
+ * numbers are 0, and hall and sheets are as they were.
+ */
 typedef struct yilgashe_rounded {
     yilgashe_hall hall;
     size_t count;
     uint64_t tried;
+    uint8_t served;
     uint8_t refusal;
 } yilgashe_rounded;
 
-/* Nobody waits, and no key is noted. */
-yilgashe_hall yilgashe_hall_empty(void);
+/* Nobody waits, no key is noted, and no game was served. Sizes over 8 are taken, and refused by every call that gets this hall. */
+yilgashe_hall yilgashe_hall_empty(yilgashe_games games);
 
 /*
  * A booking or a withdrawal under a key of the caller's choice. A call that is sent again with its key gets the answer that it got
- * and changes nothing. Refusals 4, 9, 10 and 11 are noted with the key, so a corrected call needs a new key; 1, 7 and 8 change
- * nothing.
+ * and changes nothing. Refusals 4, 9, 10, 11 and 13 are noted with the key, so a corrected call needs a new key; 1, 7 and 8 change
+ * nothing. A guest waits for one game at a time: 9 looks at all of them. A withdrawal names no game.
  */
 yilgashe_keyed yilgashe_hall_book(yilgashe_hall hall, uint64_t key, yilgashe_booking booking);
 yilgashe_keyed yilgashe_hall_withdraw(yilgashe_hall hall, uint64_t key, uint64_t player);
 
-/* The greedy search over those who wait: of equally near guests the longer wait goes first. The seated leave. */
-yilgashe_rounded yilgashe_hall_greedy_round(yilgashe_hall hall, yilgashe_team_composition sizes, uint64_t clock,
-                                            const uint64_t *ids, size_t ids_len, const double *ratings, size_t ratings_len,
-                                            uint64_t *players, size_t players_len, double *qualities, size_t qualities_len);
+/*
+ * A round of a game takes that game's sizes, and its bookings alone, in the order booked: they are the queue that is searched, by which the
+ * limit of 20, waiting friends and the beam's wait go. The seated leave, with every booking of theirs. Everybody else, of whatever game,
+ * goes on waiting in the order of before, and `served` of the hall stays. A game number over 7 is YILGASHE_NO_SUCH_GAME before any other
+ * refusal. Of a game that is not used a full round hands out the one match that seats nobody, if it meets the rules, and the other rounds
+ * form none.
+ */
 
-/* The beam search over those who wait; the seated leave. */
-yilgashe_rounded yilgashe_hall_beam_round(yilgashe_hall hall, yilgashe_beam_search search, yilgashe_team_composition sizes,
+/* The greedy search: of equally near guests the longer wait goes first. */
+yilgashe_rounded yilgashe_hall_greedy_round(yilgashe_hall hall, uint8_t game, uint64_t clock, const uint64_t *ids, size_t ids_len,
+                                            const double *ratings, size_t ratings_len, uint64_t *players, size_t players_len,
+                                            double *qualities, size_t qualities_len);
+
+/* The beam search. */
+yilgashe_rounded yilgashe_hall_beam_round(yilgashe_hall hall, yilgashe_beam_search search, uint8_t game,
                                           yilgashe_match_objective objective, uint64_t clock, const uint64_t *ids, size_t ids_len,
                                           const double *ratings, size_t ratings_len, const double *deviations,
                                           size_t deviations_len, uint64_t *players, size_t players_len, double *qualities,
                                           size_t qualities_len);
 
-/* The best choice among those who wait, if any meets the rules, with quality 0.0; the seated leave. */
-yilgashe_rounded yilgashe_hall_full_round(yilgashe_hall hall, yilgashe_team_composition sizes, yilgashe_round_rules rules,
+/* The best choice, if any meets the rules, with quality 0.0. */
+yilgashe_rounded yilgashe_hall_full_round(yilgashe_hall hall, uint8_t game, yilgashe_round_rules rules,
                                           yilgashe_soft_objectives objectives, uint64_t clock, const uint64_t *ids, size_t ids_len,
                                           const double *ratings, size_t ratings_len, const uint64_t *parties, size_t parties_len,
                                           const uint32_t *roles, size_t roles_len, const uint8_t *regions, size_t regions_len,
                                           uint64_t *players, size_t players_len, double *qualities, size_t qualities_len);
+
+/*
+ * The greedy round of the game whose turn it is: the next one in circular order behind the last one served that has seats (a + b above 0),
+ * and at least as many bookings as seats. Game 7 is followed by game 0, the last one served comes last itself, and where none was served
+ * it begins at game 0. That game is then served, whether its round forms a match or none: `served` names it, in the answer and in the hall.
+ * The sheets are read by its sizes:
+ *
+ *     if (told.served != YILGASHE_NONE_SERVED)
+ *         sizes = told.hall.sizes[told.served];
+ *
+ * Where no game has enough, none is served: the count is 0, and the hall is as it was, its `served` too. The checks are those of a greedy
+ * round and come first, also where no game has enough. A game that has enough before each of eight dispatches in a row, refused ones not
+ * counted, is served by one of them, whatever other calls stand between.
+ */
+yilgashe_rounded yilgashe_hall_dispatch(yilgashe_hall hall, uint64_t clock, const uint64_t *ids, size_t ids_len,
+                                        const double *ratings, size_t ratings_len, uint64_t *players, size_t players_len,
+                                        double *qualities, size_t qualities_len);
 
 #ifdef __cplusplus
 }

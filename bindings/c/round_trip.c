@@ -29,6 +29,7 @@ static yilgashe_queue_entry blank;
 static yilgashe_role_requirements no_requirements;
 static yilgashe_constraints no_rules;
 static yilgashe_round_rules no_round_rules;
+static yilgashe_games no_games;
 
 /* Numbers whose bytes all differ, one for each n. */
 static uint64_t wide(uint64_t n)
@@ -521,7 +522,7 @@ static void choices(void)
     CHECK(told.refusal == YILGASHE_TOO_WIDE && !told.found && told.tried == 0);
 }
 
-static yilgashe_booking booking_of(yilgashe_queue_entry e)
+static yilgashe_booking booking_of(yilgashe_queue_entry e, uint8_t game)
 {
     yilgashe_booking b;
     b.player = e.player;
@@ -529,29 +530,32 @@ static yilgashe_booking booking_of(yilgashe_queue_entry e)
     b.rating = e.rating;
     b.party = e.party;
     b.role = e.role;
+    b.game = game;
     return b;
 }
 
+/* The n-th booking, for each game by turns. */
 static yilgashe_booking booking(uint64_t n)
 {
-    return booking_of(entry(n));
+    return booking_of(entry(n), (uint8_t)(n % 8));
 }
 
-/* Is this the n-th booking? */
-static bool booked(yilgashe_booking b, uint64_t n)
+/* Is this the n-th entry's booking for the game? */
+static bool booked(yilgashe_booking b, uint64_t n, uint8_t game)
 {
     const yilgashe_queue_entry e = entry(n);
-    return b.player == e.player && b.joined == e.joined && b.rating == e.rating && b.party == e.party && b.role == e.role;
+    return b.player == e.player && b.joined == e.joined && b.rating == e.rating && b.party == e.party && b.role == e.role &&
+           b.game == game;
 }
 
-/* Those who wait in the queue wait in the hall. */
-static void fill(yilgashe_hall *hall, yilgashe_queue queue)
+static bool same_sizes(const yilgashe_team_composition *x, const yilgashe_team_composition *y)
 {
-    size_t n;
-    for (n = 0; n < queue.len; n++) {
-        hall->bookings[n] = booking_of(queue.entries[n]);
+    bool same = true;
+    size_t g;
+    for (g = 0; g < 8; g++) {
+        same = same && x[g].a == y[g].a && x[g].b == y[g].b;
     }
-    hall->waiting = queue.len;
+    return same;
 }
 
 /* Is this key noted at place n, with this note beside it? */
@@ -561,43 +565,78 @@ static bool noted(const yilgashe_hall *hall, uint64_t n, uint64_t key, uint64_t 
     return hall->keys[n] == key && note.player == player && note.kind == kind && note.answer == answer;
 }
 
+/* Eight games of nine seats, no two alike: 1 and 8, 2 and 7, .., 8 and 1. */
+static yilgashe_games nines(void)
+{
+    yilgashe_games games;
+    size_t g;
+    for (g = 0; g < 8; g++) {
+        games.sizes[g] = teams_of(g + 1, 8 - g);
+    }
+    return games;
+}
+
+/* The sizes of all games stand in the empty hall. Those over 8 are refused by the next call, which hands them back. */
+static void empty_halls(void)
+{
+    static yilgashe_keyed told;
+    yilgashe_games games;
+    size_t g;
+    for (g = 0; g < 8; g++) {
+        games.sizes[g] = teams_of(wide(2 * g), wide(2 * g + 1));
+    }
+    told.hall = yilgashe_hall_empty(games);
+    CHECK(told.hall.waiting == 0 && told.hall.noted == 0 && told.hall.served == YILGASHE_NONE_SERVED);
+    CHECK(same_sizes(told.hall.sizes, games.sizes));
+    told = yilgashe_hall_book(told.hall, 1, booking(0));
+    CHECK(told.refusal == YILGASHE_OVER_LIMIT && told.hall.noted == 0 && same_sizes(told.hall.sizes, games.sizes));
+}
+
 /* Each booking waits as it came, and its key gets its note; the 65th meets a full hall, and a resend the noted answer. */
 static void bookings(void)
 {
     static yilgashe_keyed told;
+    const yilgashe_games games = nines();
     uint64_t n;
-    told.hall = yilgashe_hall_empty();
-    CHECK(told.hall.waiting == 0 && told.hall.noted == 0);
+    told.hall = yilgashe_hall_empty(games);
+    told.hall.served = 3;
     for (n = 0; n < 65; n++) {
         told = yilgashe_hall_book(told.hall, ~wide(n), booking(n));
         CHECK(told.refusal == (n == 64 ? YILGASHE_HALL_FULL : YILGASHE_ACCEPTED));
         CHECK(told.hall.noted == n + 1 && noted(&told.hall, n, ~wide(n), wide(n), YILGASHE_BOOKING, told.refusal));
+        CHECK(told.hall.served == 3 && same_sizes(told.hall.sizes, games.sizes));
     }
     told = yilgashe_hall_book(told.hall, ~wide(64), booking(64));
     CHECK(told.refusal == YILGASHE_HALL_FULL && told.hall.noted == 65 && told.hall.waiting == 64);
     for (n = 0; n < 64; n++) {
-        CHECK(booked(told.hall.bookings[n], n));
+        CHECK(booked(told.hall.bookings[n], n, (uint8_t)(n % 8)));
     }
     told = yilgashe_hall_withdraw(told.hall, 5, wide(0));
     CHECK(told.refusal == YILGASHE_ACCEPTED && told.hall.waiting == 63);
-    CHECK(booked(told.hall.bookings[62], 63));
+    CHECK(booked(told.hall.bookings[62], 63, 7));
     CHECK(noted(&told.hall, 65, 5, wide(0), YILGASHE_WITHDRAWAL, YILGASHE_ACCEPTED));
     told = yilgashe_hall_withdraw(told.hall, 6, wide(0));
     CHECK(told.refusal == YILGASHE_NOT_WAITING);
     CHECK(noted(&told.hall, 66, 6, wide(0), YILGASHE_WITHDRAWAL, YILGASHE_NOT_WAITING));
+    CHECK(told.hall.served == 3 && same_sizes(told.hall.sizes, games.sizes));
 }
 
-/* A hall of 1,024 keys, each with a note of its own. */
-static void note_all(yilgashe_hall *hall)
+/* A hall of 64 bookings and 1,024 keys, every field of its own: each booking's game too, though no call accepts one over 7. */
+static void fill_all(yilgashe_hall *hall)
 {
-    const uint8_t answers[8] = {YILGASHE_ACCEPTED, YILGASHE_CLOCK,       YILGASHE_ALREADY_WAITING, YILGASHE_HALL_FULL,
-                                YILGASHE_ACCEPTED, YILGASHE_NOT_WAITING, YILGASHE_ACCEPTED,        YILGASHE_NOT_WAITING};
+    const uint8_t answers[10] = {YILGASHE_ACCEPTED,     YILGASHE_CLOCK,    YILGASHE_ALREADY_WAITING, YILGASHE_HALL_FULL,
+                                 YILGASHE_NO_SUCH_GAME, YILGASHE_ACCEPTED, YILGASHE_NOT_WAITING,     YILGASHE_ACCEPTED,
+                                 YILGASHE_NOT_WAITING,  YILGASHE_ACCEPTED};
     uint64_t n;
+    for (n = 0; n < 64; n++) {
+        hall->bookings[n] = booking_of(entry(n), (uint8_t)(0x95 + n));
+    }
+    hall->waiting = 64;
     for (n = 0; n < 1024; n++) {
         hall->keys[n] = UINT64_C(0x1122334455660000) + n;
         hall->notes[n].player = UINT64_C(0x99aabbccddee0000) + n;
-        hall->notes[n].kind = (uint8_t)(n / 4 % 2);
-        hall->notes[n].answer = answers[n % 8];
+        hall->notes[n].kind = (uint8_t)(n / 5 % 2);
+        hall->notes[n].answer = answers[n % 10];
     }
     hall->noted = 1024;
 }
@@ -608,14 +647,13 @@ static void notes(void)
     static yilgashe_hall hall;
     static yilgashe_keyed told;
     uint64_t n;
-    note_all(&hall);
-    fill(&hall, full_queue());
-    told = yilgashe_hall_book(hall, 1, booking(0));
+    fill_all(&hall);
+    told = yilgashe_hall_book(hall, 1, booking_of(entry(0), 8));
     CHECK(told.refusal == YILGASHE_BOOK_FULL && told.hall.noted == 1024 && told.hall.waiting == 64);
     for (n = 0; n < 1024; n++) {
         const yilgashe_note note = hall.notes[n];
         CHECK(noted(&told.hall, n, hall.keys[n], note.player, note.kind, note.answer));
-        CHECK(n >= 64 || booked(told.hall.bookings[n], n));
+        CHECK(n >= 64 || booked(told.hall.bookings[n], n, (uint8_t)(0x95 + n)));
     }
     for (n = 0; n < 1024; n += 31) {
         const uint64_t key = hall.keys[n];
@@ -627,62 +665,407 @@ static void notes(void)
         told = note.kind == YILGASHE_BOOKING ? yilgashe_hall_withdraw(hall, key, note.player) : yilgashe_hall_book(hall, key, again);
         CHECK(told.refusal == YILGASHE_KEY_CLASH);
     }
-    hall.noted = 1025;
-    CHECK(yilgashe_hall_withdraw(hall, 1, 1).refusal == YILGASHE_OVER_LIMIT);
-    hall.noted = 1024;
-    hall.waiting = 65;
-    CHECK(yilgashe_hall_withdraw(hall, 1, 1).refusal == YILGASHE_OVER_LIMIT);
+    hall.notes[5].answer = YILGASHE_NO_SUCH_GAME; /* which no withdrawal can get */
+    CHECK(yilgashe_hall_withdraw(hall, hall.keys[5], hall.notes[5].player).refusal == YILGASHE_KEY_CLASH);
 }
 
-/* Each round hands back the hall without the seated, the number of matches, and the number of choices. */
+enum { GREEDY = 0, BEAM = 1, FULL = 2, DISPATCH = 3 };
+
+static yilgashe_rounded full_round(yilgashe_hall hall, uint8_t game, yilgashe_round_rules rules, uint8_t soft_kind, uint64_t clock)
+{
+    const yilgashe_soft_objectives wishes = {{soft_kind}, {1.0}, 1};
+    return yilgashe_hall_full_round(hall, game, rules, wishes, clock, ids4, 4, ratings4, 4, parties4, 4, roles4, 4, regions4, 4, players,
+                                    SHEET, qualities, SHEET);
+}
+
+/* A round of this kind; a dispatch does not read the game. */
+static yilgashe_rounded round_of(unsigned kind, yilgashe_hall hall, uint8_t game, uint64_t clock)
+{
+    const yilgashe_match_objective quality = objective(1.0, 0.0, 0.0, 0.0);
+    const yilgashe_beam_search beam = {32};
+    switch (kind) {
+    case GREEDY:
+        return yilgashe_hall_greedy_round(hall, game, clock, ids4, 4, ratings4, 4, players, SHEET, qualities, SHEET);
+    case BEAM:
+        return yilgashe_hall_beam_round(hall, beam, game, quality, clock, ids4, 4, ratings4, 4, deviations4, 4, players, SHEET,
+                                        qualities, SHEET);
+    case FULL:
+        return full_round(hall, game, no_round_rules, YILGASHE_SKILL, clock);
+    default:
+        return yilgashe_hall_dispatch(hall, clock, ids4, 4, ratings4, 4, players, SHEET, qualities, SHEET);
+    }
+}
+
+/* Guest 9 waits for game 6, which is not used, and then the four for game 5 with these sizes. Game 4 was served last. */
+static yilgashe_hall five_guests(size_t a, size_t b)
+{
+    const yilgashe_queue queue = four();
+    yilgashe_games games = no_games;
+    yilgashe_hall hall;
+    size_t n;
+    games.sizes[5] = teams_of(a, b);
+    hall = yilgashe_hall_empty(games);
+    hall.bookings[0] = booking_of(queue.entries[0], 6);
+    hall.bookings[0].player = 9;
+    for (n = 0; n < 4; n++) {
+        hall.bookings[1 + n] = booking_of(queue.entries[n], 5);
+    }
+    hall.waiting = 5;
+    hall.keys[0] = wide(1);
+    hall.notes[0].player = 9;
+    hall.notes[0].kind = YILGASHE_BOOKING;
+    hall.notes[0].answer = YILGASHE_ACCEPTED;
+    hall.noted = 1;
+    hall.served = 4;
+    return hall;
+}
+
+/* Do the hall's note and sizes stay as they were, and is this the last game served? */
+static bool stays(const yilgashe_hall *after, const yilgashe_hall *before, uint8_t served)
+{
+    return after->noted == 1 && noted(after, 0, wide(1), 9, YILGASHE_BOOKING, YILGASHE_ACCEPTED) &&
+           same_sizes(after->sizes, before->sizes) && after->served == served;
+}
+
+/* Did the round hand out one match, and wait only guest 9 and this one now? */
+static bool one_left(const yilgashe_rounded *told, uint64_t tried, uint64_t left)
+{
+    const yilgashe_booking *waiting = told->hall.bookings;
+    return told->refusal == YILGASHE_ACCEPTED && told->count == 1 && told->tried == tried && told->hall.waiting == 2 &&
+           waiting[0].player == 9 && waiting[0].game == 6 && waiting[1].player == left && waiting[1].game == 5;
+}
+
+/* Each round hands back the hall without the seated, the number of matches, the number of choices, and the game served. */
 static void rounds(void)
 {
     static yilgashe_hall hall;
     static yilgashe_rounded told;
-    const yilgashe_team_composition two_one = teams_of(2, 1), one_two = teams_of(1, 2);
-    const yilgashe_match_objective quality = objective(1.0, 0.0, 0.0, 0.0);
-    const yilgashe_soft_objectives skill = {{YILGASHE_SKILL}, {1.0}, 1};
-    const yilgashe_beam_search beam = {32};
-    yilgashe_round_rules rules = no_round_rules;
-    const uint64_t late = YILGASHE_MAX_TIME + 1;
-    fill(&hall, four());
-    hall.noted = 1;
-    hall.keys[0] = wide(1);
+    hall = five_guests(2, 1);
     fresh_sheets();
-    told = yilgashe_hall_greedy_round(hall, two_one, 0, ids4, 4, ratings4, 4, players, SHEET, qualities, SHEET);
-    CHECK(told.refusal == YILGASHE_ACCEPTED && told.count == 1 && told.tried == 0 && seated(1, 4, 3, ~(uint64_t)0));
-    CHECK(told.hall.waiting == 1 && told.hall.bookings[0].player == 2);
-    CHECK(told.hall.noted == 1 && told.hall.keys[0] == wide(1));
-    told = yilgashe_hall_greedy_round(hall, two_one, late, ids4, 4, ratings4, 4, players, SHEET, qualities, SHEET);
-    CHECK(told.refusal == YILGASHE_CLOCK && told.count == 0 && told.hall.waiting == 4);
+    told = round_of(GREEDY, hall, 5, 0);
+    CHECK(one_left(&told, 0, 2) && seated(1, 4, 3, ~(uint64_t)0));
+    CHECK(told.served == YILGASHE_NONE_SERVED && stays(&told.hall, &hall, 4));
     fresh_sheets();
-    told = yilgashe_hall_beam_round(hall, beam, one_two, quality, 0, ids4, 4, ratings4, 4, deviations4, 4, players, SHEET, qualities,
-                                    SHEET);
-    CHECK(told.refusal == YILGASHE_ACCEPTED && told.count == 1 && told.tried == 0 && seated(1, 3, 4, ~(uint64_t)0));
-    told = yilgashe_hall_beam_round(hall, beam, one_two, quality, late, ids4, 4, ratings4, 4, deviations4, 4, players, SHEET,
-                                    qualities, SHEET);
-    CHECK(told.refusal == YILGASHE_CLOCK && told.hall.waiting == 4);
+    told = round_of(DISPATCH, hall, 0, 0);
+    CHECK(one_left(&told, 0, 2) && seated(1, 4, 3, ~(uint64_t)0));
+    CHECK(told.served == 5 && stays(&told.hall, &hall, 5));
     fresh_sheets();
-    told = yilgashe_hall_full_round(hall, two_one, rules, skill, 0, ids4, 4, ratings4, 4, parties4, 4, roles4, 4, regions4, 4, players,
-                                    SHEET, qualities, SHEET);
-    CHECK(told.refusal == YILGASHE_ACCEPTED && told.count == 1 && told.tried == 4 && seated(1, 2, 4, ~(uint64_t)0));
-    CHECK(told.hall.waiting == 1 && told.hall.bookings[0].player == 3 && qualities[0] == 0.0);
-    rules.constraints.brought.sizes = true;
-    told = yilgashe_hall_full_round(hall, two_one, rules, skill, 0, ids4, 4, ratings4, 4, parties4, 4, roles4, 4, regions4, 4, players,
-                                    SHEET, qualities, SHEET);
-    CHECK(told.refusal == YILGASHE_ACCEPTED && told.count == 0 && told.tried == 4 && told.hall.waiting == 4);
-    told = yilgashe_hall_full_round(hall, two_one, rules, skill, late, ids4, 4, ratings4, 4, parties4, 4, roles4, 4, regions4, 4,
-                                    players, SHEET, qualities, SHEET);
-    CHECK(told.refusal == YILGASHE_CLOCK && told.count == 0 && told.tried == 0);
+    told = round_of(FULL, hall, 5, 0);
+    CHECK(one_left(&told, 4, 3) && seated(1, 2, 4, ~(uint64_t)0) && qualities[0] == 0.0);
+    CHECK(told.served == YILGASHE_NONE_SERVED && stays(&told.hall, &hall, 4));
+    hall = five_guests(1, 2);
+    fresh_sheets();
+    told = round_of(BEAM, hall, 5, 0);
+    CHECK(one_left(&told, 0, 2) && seated(1, 3, 4, ~(uint64_t)0));
+    CHECK(told.served == YILGASHE_NONE_SERVED && stays(&told.hall, &hall, 4));
 }
 
-/* The n-th of these guests waits with the n-th of these parties. */
+/* Did the round answer so, and leave all as it was? */
+static bool idle(const yilgashe_rounded *told, uint8_t answer)
+{
+    return told->refusal == answer && told->count == 0 && told->tried == 0 && told->served == YILGASHE_NONE_SERVED &&
+           told->hall.waiting == 5 && told->hall.served == 4 && players[0] == ~(uint64_t)0 && qualities[0] == -1.0;
+}
+
+/* A clock, or the joined time of anyone who waits, for another game too. */
+static void late_rounds(void)
+{
+    static yilgashe_hall hall;
+    static yilgashe_rounded told;
+    unsigned kind;
+    fresh_sheets();
+    for (kind = GREEDY; kind <= DISPATCH; kind++) {
+        hall = five_guests(2, 1);
+        told = round_of(kind, hall, 5, YILGASHE_MAX_TIME + 1);
+        CHECK(idle(&told, YILGASHE_CLOCK) && stays(&told.hall, &hall, 4));
+        hall.bookings[0].joined = YILGASHE_MAX_TIME + 1;
+        told = round_of(kind, hall, 5, 0);
+        CHECK(idle(&told, YILGASHE_CLOCK) && stays(&told.hall, &hall, 4));
+    }
+}
+
+/* Nine wait for the game and nine for the next one, by turns. */
+static yilgashe_hall by_turns(uint8_t game)
+{
+    yilgashe_hall hall = yilgashe_hall_empty(nines());
+    uint64_t n;
+    for (n = 0; n < 18; n++) {
+        hall.bookings[n] = booking_of(entry(n), (uint8_t)((game + n % 2) % 8));
+    }
+    hall.waiting = 18;
+    return hall;
+}
+
+/* A round has the sizes of its own game, as the constraint on sizes tells, and seats whoever waits for it; the others wait on. */
+static void rounds_of_games(void)
+{
+    static yilgashe_rounded told;
+    uint8_t game;
+    uint64_t n;
+    for (game = 0; game < 8; game++) {
+        yilgashe_round_rules rules = no_round_rules;
+        rules.constraints.brought.sizes = true;
+        rules.constraints.sizes.a = 8u - game;
+        rules.constraints.sizes.b = game + 1u;
+        fresh_sheets();
+        told = full_round(by_turns(game), game, rules, YILGASHE_SKILL, 0);
+        CHECK(told.refusal == YILGASHE_ACCEPTED && told.count == 0 && told.tried == 1 && told.hall.waiting == 18);
+        rules.constraints.sizes.a = game + 1u;
+        rules.constraints.sizes.b = 8u - game;
+        told = full_round(by_turns(game), game, rules, YILGASHE_SKILL, 0);
+        CHECK(told.refusal == YILGASHE_ACCEPTED && told.count == 1 && told.tried == 1 && told.hall.waiting == 9);
+        for (n = 0; n < 9; n++) {
+            CHECK(players[n] == wide(2 * n) && booked(told.hall.bookings[n], 2 * n + 1, (uint8_t)((game + 1) % 8)));
+        }
+        CHECK(players[9] == ~(uint64_t)0);
+    }
+}
+
+/* The limit of 20 is each game's: 20 wait for game 0, and 21 for game 1. Whoever is seated leaves with a booking for another game. */
+static void limits_of_games(void)
+{
+    static yilgashe_hall hall;
+    static yilgashe_rounded told;
+    yilgashe_games games = no_games;
+    uint64_t n;
+    games.sizes[0] = games.sizes[1] = teams_of(1, 1);
+    hall = yilgashe_hall_empty(games);
+    for (n = 0; n < 41; n++) {
+        hall.bookings[n] = booking_of(entry(n), n % 2 == 1 ? 0 : 1);
+    }
+    hall.waiting = 41;
+    hall.bookings[0].player = wide(39);
+    told = round_of(FULL, hall, 1, 0);
+    CHECK(told.refusal == YILGASHE_TOO_WIDE && told.hall.waiting == 41);
+    told = round_of(FULL, hall, 0, 0);
+    CHECK(told.refusal == YILGASHE_ACCEPTED && told.tried == 190 && players[0] == wide(37) && players[1] == wide(39));
+    CHECK(told.hall.waiting == 38 && booked(told.hall.bookings[0], 1, 0) && booked(told.hall.bookings[37], 40, 1));
+}
+
+/* A game over 7 is refused before anything else: here the hall is over its limits, the clock late, and the soft kind none. */
+static void rounds_of_no_game(void)
+{
+    static yilgashe_hall hall;
+    static yilgashe_rounded told;
+    const uint8_t games[4] = {8, 9, 128, YILGASHE_NONE_SERVED};
+    unsigned kind, n;
+    fresh_sheets();
+    hall = five_guests(2, 1);
+    hall.noted = 1025;
+    for (n = 0; n < 4; n++) {
+        for (kind = GREEDY; kind <= FULL; kind++) {
+            told = round_of(kind, hall, games[n], YILGASHE_MAX_TIME + 1);
+            CHECK(idle(&told, YILGASHE_NO_SUCH_GAME) && told.hall.noted == 1025);
+        }
+        told = full_round(hall, games[n], no_round_rules, 3, 0);
+        CHECK(idle(&told, YILGASHE_NO_SUCH_GAME));
+    }
+    told = full_round(five_guests(2, 1), 5, no_round_rules, 3, YILGASHE_MAX_TIME + 1);
+    CHECK(idle(&told, YILGASHE_OVER_LIMIT));
+}
+
+/* In a booking it comes behind what the key says and before all else, and it is noted. */
+static void bookings_for_no_game(void)
+{
+    static yilgashe_keyed told;
+    yilgashe_booking b = booking(0);
+    told.hall = five_guests(2, 1);
+    b.player = 9;
+    b.joined = YILGASHE_MAX_TIME + 1;
+    b.game = 8;
+    told = yilgashe_hall_book(told.hall, 7, b);
+    CHECK(told.refusal == YILGASHE_NO_SUCH_GAME && told.hall.waiting == 5 && told.hall.noted == 2);
+    CHECK(noted(&told.hall, 1, 7, 9, YILGASHE_BOOKING, YILGASHE_NO_SUCH_GAME));
+    told = yilgashe_hall_book(told.hall, 7, b);
+    CHECK(told.refusal == YILGASHE_NO_SUCH_GAME && told.hall.waiting == 5 && told.hall.noted == 2);
+    b.player = 8;
+    CHECK(yilgashe_hall_book(told.hall, 7, b).refusal == YILGASHE_KEY_CLASH);
+    b.game = 7;
+    CHECK(yilgashe_hall_book(told.hall, 70, b).refusal == YILGASHE_CLOCK);
+    b.player = 9;
+    b.joined = 0;
+    CHECK(yilgashe_hall_book(told.hall, 70, b).refusal == YILGASHE_ALREADY_WAITING);
+    b.player = 8;
+    told = yilgashe_hall_book(told.hall, 70, b);
+    CHECK(told.refusal == YILGASHE_ACCEPTED && told.hall.waiting == 6 && told.hall.bookings[5].game == 7);
+}
+
+/* Does every call answer so? */
+static bool all_answer(const yilgashe_hall *hall, uint8_t refusal)
+{
+    bool all = yilgashe_hall_book(*hall, 5, booking(0)).refusal == refusal && yilgashe_hall_withdraw(*hall, 5, 9).refusal == refusal;
+    unsigned kind;
+    for (kind = GREEDY; kind <= DISPATCH; kind++) {
+        all = all && round_of(kind, *hall, 5, 0).refusal == refusal;
+    }
+    return all;
+}
+
+/* A size over 8 in any game, used or not. */
+static void sizes_over_limits(void)
+{
+    static yilgashe_hall hall;
+    size_t n;
+    for (n = 0; n < 16; n++) {
+        size_t *size;
+        hall = five_guests(2, 1);
+        size = n % 2 == 0 ? &hall.sizes[n / 2].a : &hall.sizes[n / 2].b;
+        *size = 8;
+        CHECK(all_answer(&hall, YILGASHE_ACCEPTED));
+        *size = 9;
+        CHECK(all_answer(&hall, YILGASHE_OVER_LIMIT));
+        *size = ~(size_t)0;
+        CHECK(all_answer(&hall, YILGASHE_OVER_LIMIT));
+    }
+}
+
+/* More bookings or keys than there are places, and a last game served that is neither a game nor none. */
+static void numbers_over_limits(void)
+{
+    static yilgashe_hall hall;
+    unsigned served;
+    hall = five_guests(2, 1);
+    for (served = 0; served < 256; served++) {
+        hall.served = (uint8_t)served;
+        CHECK(all_answer(&hall, served < 8 || served == YILGASHE_NONE_SERVED ? YILGASHE_ACCEPTED : YILGASHE_OVER_LIMIT));
+    }
+    hall.waiting = 65;
+    CHECK(all_answer(&hall, YILGASHE_OVER_LIMIT));
+    hall.waiting = 5;
+    hall.noted = 1025;
+    CHECK(all_answer(&hall, YILGASHE_OVER_LIMIT));
+}
+
+/* Eight games of one against one, for each of which two wait: guests 0 and 1 for game 0, and so on. */
+static yilgashe_hall pairs_for_all(uint8_t served)
+{
+    yilgashe_games games;
+    yilgashe_hall hall;
+    size_t n;
+    for (n = 0; n < 8; n++) {
+        games.sizes[n] = teams_of(1, 1);
+    }
+    hall = yilgashe_hall_empty(games);
+    for (n = 0; n < 16; n++) {
+        hall.bookings[n] = booking_of(blank, (uint8_t)(n / 2));
+        hall.bookings[n].player = n;
+    }
+    hall.waiting = 16;
+    hall.served = served;
+    return hall;
+}
+
+/* The games take turns behind the last one served, from game 0 where none was. The ninth dispatch finds nobody. */
+static void turns(void)
+{
+    static yilgashe_rounded told;
+    unsigned first, n;
+    for (first = 0; first <= 8; first++) {
+        told.hall = pairs_for_all(first == 0 ? (uint8_t)YILGASHE_NONE_SERVED : (uint8_t)(first - 1));
+        for (n = 0; n < 8; n++) {
+            const unsigned game = (first + n) % 8;
+            fresh_sheets();
+            told = round_of(DISPATCH, told.hall, 0, 0);
+            CHECK(told.refusal == YILGASHE_ACCEPTED && told.served == game && told.hall.served == game && told.count == 1);
+            CHECK(told.tried == 0 && seated(2 * game, 2 * game + 1, ~(uint64_t)0, ~(uint64_t)0) && qualities[1] == -1.0);
+            CHECK(told.hall.waiting == 14 - 2 * n);
+        }
+        told = round_of(DISPATCH, told.hall, 0, 0);
+        CHECK(told.refusal == YILGASHE_ACCEPTED && told.served == YILGASHE_NONE_SERVED && told.count == 0);
+        CHECK(told.hall.served == (first + 7) % 8);
+    }
+}
+
+/* Four guests are too few for five seats, and a game that is not used has none to fill. The checks are made all the same. */
+static void none_served(void)
+{
+    static yilgashe_hall hall;
+    static yilgashe_rounded told;
+    hall = five_guests(4, 1);
+    fresh_sheets();
+    told = round_of(DISPATCH, hall, 0, 0);
+    CHECK(idle(&told, YILGASHE_ACCEPTED) && stays(&told.hall, &hall, 4));
+    told = yilgashe_hall_dispatch(hall, YILGASHE_MAX_TIME + 1, ids4, 4, ratings4, 4, players, SHEET, qualities, SHEET - 1);
+    CHECK(idle(&told, YILGASHE_SHORT_SHEET));
+    told = yilgashe_hall_dispatch(hall, 0, ids4, 4, ratings4, 4, players, SHEET - 1, qualities, SHEET);
+    CHECK(idle(&told, YILGASHE_SHORT_SHEET));
+    told = yilgashe_hall_dispatch(hall, 0, ids4, 4, ratings4, 3, players, SHEET - 1, qualities, SHEET);
+    CHECK(idle(&told, YILGASHE_BAD_ROSTER));
+    told = round_of(DISPATCH, hall, 0, YILGASHE_MAX_TIME + 1);
+    CHECK(idle(&told, YILGASHE_CLOCK));
+}
+
+/* Nobody against one forms no match, and is served; as the last one served it comes again behind all others, which have too few. */
+static void served_without_a_match(void)
+{
+    static yilgashe_hall hall;
+    static yilgashe_rounded told;
+    unsigned n;
+    hall = five_guests(4, 1);
+    hall.sizes[6] = teams_of(0, 1);
+    told.hall = hall;
+    for (n = 0; n < 2; n++) {
+        told = round_of(DISPATCH, told.hall, 0, 0);
+        CHECK(told.refusal == YILGASHE_ACCEPTED && told.served == 6 && told.count == 0);
+        CHECK(told.hall.waiting == 5 && stays(&told.hall, &hall, 6));
+    }
+    told.hall.sizes[5] = teams_of(3, 1); /* just enough */
+    told = round_of(DISPATCH, told.hall, 0, 0);
+    CHECK(told.served == 5 && told.count == 1 && told.hall.waiting == 1 && told.hall.bookings[0].player == 9);
+}
+
+/* A game that is not used has one choice, which seats nobody; a search forms nothing. */
+static void unused_games(void)
+{
+    static yilgashe_rounded told;
+    unsigned kind;
+    fresh_sheets();
+    for (kind = GREEDY; kind <= FULL; kind++) {
+        told = round_of(kind, five_guests(2, 1), 6, 0);
+        CHECK(told.refusal == YILGASHE_ACCEPTED && told.hall.waiting == 5 && players[0] == ~(uint64_t)0);
+        CHECK(told.count == (kind == FULL ? 1 : 0) && told.tried == (kind == FULL ? 1 : 0));
+    }
+    CHECK(qualities[0] == 0.0);
+}
+
+/* A hall of before there were games is the first 27,152 bytes of one. Where a booking has its game now was no field: any byte may stand
+ * there. */
+static void kept_halls(void)
+{
+    static unsigned char kept[27152];
+    static yilgashe_hall hall;
+    static yilgashe_rounded told;
+    yilgashe_booking again = booking_of(blank, 0);
+    yilgashe_games games = no_games;
+    size_t n;
+    hall = five_guests(2, 1);
+    memcpy(kept, &hall, sizeof kept);
+    for (n = 0; n < 64; n++) {
+        kept[n * sizeof(yilgashe_booking) + offsetof(yilgashe_booking, game)] = 0xab;
+    }
+    games.sizes[0] = teams_of(2, 1);
+    hall = yilgashe_hall_empty(games);
+    memcpy(&hall, kept, sizeof kept);
+    for (n = 0; n < 64; n++) {
+        hall.bookings[n].game = 0;
+    }
+    told = round_of(GREEDY, hall, 0, 0);
+    CHECK(told.refusal == YILGASHE_ACCEPTED && told.count == 1 && seated(9, 3, 1, ~(uint64_t)0));
+    CHECK(told.hall.waiting == 2 && told.hall.bookings[0].player == 2 && told.hall.bookings[1].player == 4);
+    CHECK(stays(&told.hall, &hall, YILGASHE_NONE_SERVED));
+    again.player = 9; /* as his phone sent it, with the game that it did not name */
+    CHECK(yilgashe_hall_book(told.hall, wide(1), again).refusal == YILGASHE_ACCEPTED);
+    again.player = 8;
+    CHECK(yilgashe_hall_book(told.hall, wide(1), again).refusal == YILGASHE_KEY_CLASH);
+}
+
+/* The n-th of these guests waits for game 0 with the n-th of these parties. */
 static yilgashe_hall coming(const uint64_t *guests, const uint64_t *parties, size_t len)
 {
-    yilgashe_hall hall = yilgashe_hall_empty();
+    yilgashe_hall hall = yilgashe_hall_empty(no_games);
     size_t n;
     for (n = 0; n < len; n++) {
-        yilgashe_booking b = {guests[n], 0, 0.0, parties[n], 0};
+        yilgashe_booking b = {guests[n], 0, 0.0, parties[n], 0, 0};
         hall.bookings[n] = b;
     }
     hall.waiting = len;
@@ -698,8 +1081,9 @@ static yilgashe_rounded friends_round(yilgashe_hall hall, yilgashe_team_composit
     yilgashe_round_rules rules = no_round_rules;
     rules.constraints.brought.parties = parties;
     rules.waiting_friends = waiting_friends;
+    hall.sizes[0] = sizes;
     fresh_sheets();
-    return yilgashe_hall_full_round(hall, sizes, rules, wait, 0, ids, 3, ratings4, 3, of_rows, 3, roles4, 3, regions4, 3, players, SHEET,
+    return yilgashe_hall_full_round(hall, 0, rules, wait, 0, ids, 3, ratings4, 3, of_rows, 3, roles4, 3, regions4, 3, players, SHEET,
                                     qualities, SHEET);
 }
 
@@ -738,6 +1122,18 @@ static void waiting_friends(void)
     CHECK(pair_of(&told, 3, 1, 3));
 }
 
+/* Guest 3, of guest 1's party, waits for another game, and holds nobody back. */
+static void friends_of_another_game(void)
+{
+    static yilgashe_hall hall;
+    static yilgashe_rounded told;
+    const uint64_t guests[3] = {1, 2, 3}, apart[3] = {7, 0, 7};
+    hall = coming(guests, apart, 3);
+    hall.bookings[2].game = 1;
+    told = friends_round(hall, teams_of(1, 1), 9, false, true);
+    CHECK(pair_of(&told, 1, 1, 2) && told.hall.waiting == 1 && told.hall.bookings[0].player == 3);
+}
+
 /* Guest 9 stayed at home. By the roster that holds back guest 1, and with him the one table there is. */
 static void friends_at_home(void)
 {
@@ -768,13 +1164,38 @@ static void friends_of_two_parties(void)
 /* Each number's word, and none beyond. */
 static void words(void)
 {
-    static const char *const due[] = {"accepted",  "over limit", "bad roster",      "short sheet", "clock",       "unranked", "too wide",
-                                      "key clash", "book full",  "already waiting", "hall full",   "not waiting", "no seats", "?"};
+    static const char *const due[] = {"accepted",  "over limit",  "bad roster", "short sheet",  "clock",
+                                      "unranked",  "too wide",    "key clash",  "book full",    "already waiting",
+                                      "hall full", "not waiting", "no seats",   "no such game", "?"};
     unsigned n;
-    for (n = 0; n < 14; n++) {
+    for (n = 0; n < 15; n++) {
         CHECK(strcmp(yilgashe_refusal_word(n), due[n]) == 0);
     }
-    CHECK(YILGASHE_NO_SEATS == 12 && YILGASHE_ALREADY_WAITING == 9 && YILGASHE_CLOCK == 4);
+    CHECK(YILGASHE_NO_SUCH_GAME == 13 && YILGASHE_NO_SEATS == 12 && YILGASHE_ALREADY_WAITING == 9 && YILGASHE_CLOCK == 4);
+}
+
+static void halls(void)
+{
+    empty_halls();
+    bookings();
+    notes();
+    rounds();
+    late_rounds();
+    rounds_of_games();
+    limits_of_games();
+    rounds_of_no_game();
+    bookings_for_no_game();
+    sizes_over_limits();
+    numbers_over_limits();
+    turns();
+    none_served();
+    served_without_a_match();
+    unused_games();
+    kept_halls();
+    waiting_friends();
+    friends_of_another_game();
+    friends_at_home();
+    friends_of_two_parties();
 }
 
 int main(void)
@@ -796,12 +1217,7 @@ int main(void)
     longer_wait();
     searches();
     choices();
-    bookings();
-    notes();
-    rounds();
-    waiting_friends();
-    friends_at_home();
-    friends_of_two_parties();
+    halls();
     printf("%u passed\n", passed);
     return 0;
 }

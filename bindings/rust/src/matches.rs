@@ -46,6 +46,11 @@ impl Matches {
         Matches::sheets(sizes, 64, 64)
     }
 
+    /// To be read by these sizes.
+    pub(crate) fn read_by(self, sizes: TeamComposition) -> Matches {
+        Matches { sizes, ..self }
+    }
+
     /// Both sheets, to be written to.
     pub(crate) fn lent(&mut self) -> (&mut [u64], &mut [f64]) {
         (&mut self.players, &mut self.qualities)

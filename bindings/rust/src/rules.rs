@@ -49,14 +49,14 @@ pub struct Constraints {
 /// Guests 1 and 3 come together. Whoever is seated with them, they are not parted:
 ///
 /// ```
-/// use yilgashe::{Booking, Hall, Refusal, Roster, RoundRules, TeamComposition};
+/// use yilgashe::{Booking, Games, Hall, Refusal, Roster, RoundRules, TeamComposition};
 ///
-/// let mut hall = Hall::new();
+/// let mut hall = Hall::new(Games::of([TeamComposition { a: 1, b: 1 }]));
 /// for (player, party) in [(1, 7), (2, 0), (3, 7)] {
 ///     hall.book(player, Booking { player, party, ..Booking::default() })?;
 /// }
 /// let together = RoundRules { waiting_friends: true, ..RoundRules::default() };
-/// let round = hall.full_round(TeamComposition { a: 1, b: 1 }, &together, &[], 0, &Roster::new())?;
+/// let round = hall.full_round(0, &together, &[], 0, &Roster::new())?;
 /// assert_eq!(round.matches.players(), [1, 3]);
 /// # Ok::<(), Refusal>(())
 /// ```
@@ -64,8 +64,8 @@ pub struct Constraints {
 pub struct RoundRules {
     /// As other calls take them. Its parties are those of the roster, where a friend who stayed at home holds his whole party back.
     pub constraints: Constraints,
-    /// Everyone is seated, in either team, who waits with the party of a booking of somebody seated. Party 0 is none, and the roster's
-    /// parties do not count: whoever stayed at home holds nobody back.
+    /// Everyone is seated, in either team, who waits for the round's game with the party of a booking of somebody seated. Party 0 is none,
+    /// and the roster's parties do not count: whoever stayed at home, or waits for another game, holds nobody back.
     pub waiting_friends: bool,
 }
 

@@ -1,8 +1,8 @@
 //! The safe crate at the counter: what it adds is types, so each refusal that its types still allow is met once.
 
 use yilgashe::{
-    Booking, Constraints, Fault, Hall, KeyRecord, Match, MatchObjective, ProposedMatch, Queue,
-    QueueEntry, Refusal, Region, RoleRequirement, Roster, RoundRules, Row, SoftObjective,
+    Booking, Constraints, Fault, Games, Hall, KeyRecord, Match, MatchObjective, ProposedMatch,
+    Queue, QueueEntry, Refusal, Region, RoleRequirement, Roster, RoundRules, Row, SoftObjective,
     TeamComposition, TeamRule, select, sys, time,
 };
 
@@ -35,8 +35,9 @@ fn rated(ratings: &[f64]) -> Roster {
         .collect()
 }
 
+/// A hall with one game, of pairs, for which so many wait.
 fn hall(players: u64) -> Hall {
-    let mut hall = Hall::new();
+    let mut hall = Hall::new(Games::of([PAIRS]));
     for player in 1..=players {
         hall.book(player, booking(player)).unwrap();
     }
@@ -46,11 +47,11 @@ fn hall(players: u64) -> Hall {
 #[test]
 fn refusals_print_as_number_and_word() {
     let words = "1 over limit, 2 bad roster, 3 short sheet, 4 clock, 5 unranked, 6 too wide, 7 key clash, 8 book full, \
-                 9 already waiting, 10 hall full, 11 not waiting, 12 no seats";
+                 9 already waiting, 10 hall full, 11 not waiting, 12 no seats, 13 no such game";
     let printed: Vec<String> = Refusal::ALL.iter().map(Refusal::to_string).collect();
     assert_eq!(printed.join(", "), words);
     assert_eq!(Refusal::from_number(0), None);
-    assert_eq!(Refusal::from_number(13), None);
+    assert_eq!(Refusal::from_number(14), None);
 }
 
 #[test]
@@ -76,11 +77,12 @@ fn keyed_refusals() {
 
 #[test]
 fn who_waits_and_what_is_noted() {
-    let mut hall = Hall::new();
+    let mut hall = hall(0);
     let guest = Booking {
         joined: 5,
         party: 6,
         role: 7,
+        game: 4,
         ..booking(1)
     };
     assert_eq!(hall.book(8, guest), Ok(()));
@@ -115,7 +117,7 @@ fn rounds_seat_and_refuse() {
         ..MatchObjective::default()
     };
     assert_eq!(
-        beam.beam_round(33, PAIRS, weights, 0, &roster),
+        beam.beam_round(33, 0, weights, 0, &roster),
         Err(Refusal::OverLimit)
     );
     let nan = MatchObjective {
@@ -123,10 +125,10 @@ fn rounds_seat_and_refuse() {
         ..weights
     };
     assert_eq!(
-        beam.beam_round(8, PAIRS, nan, 0, &roster),
+        beam.beam_round(8, 0, nan, 0, &roster),
         Err(Refusal::Unranked)
     );
-    let seated = beam.beam_round(8, PAIRS, weights, 0, &roster).unwrap();
+    let seated = beam.beam_round(8, 0, weights, 0, &roster).unwrap();
     let table = Match {
         team_a: &[1],
         team_b: &[2],
@@ -135,13 +137,13 @@ fn rounds_seat_and_refuse() {
     assert_eq!(seated.iter().collect::<Vec<_>>(), [table]);
     assert_eq!(beam.waiting(), [booking(3)]);
     let free = RoundRules::default();
-    let round = hall(21).full_round(PAIRS, &free, &[], 0, &roster);
+    let round = hall(21).full_round(0, &free, &[], 0, &roster);
     assert_eq!(round, Err(Refusal::TooWide));
-    let none = hall(1).full_round(PAIRS, &free, &[], 0, &roster).unwrap();
+    let none = hall(1).full_round(0, &free, &[], 0, &roster).unwrap();
     assert!(none.matches.is_empty() && none.tried == 0);
-    let all = hall(20).full_round(PAIRS, &free, &[], 0, &roster).unwrap();
+    let all = hall(20).full_round(0, &free, &[], 0, &roster).unwrap();
     assert_eq!((all.matches.players(), all.tried), (&[19, 20][..], 190));
-    let late = hall(2).greedy_round(PAIRS, time::MAX + 1, &roster);
+    let late = hall(2).greedy_round(0, time::MAX + 1, &roster);
     assert_eq!(late, Err(Refusal::Clock));
 }
 
@@ -355,11 +357,11 @@ fn equal_distance_goes_to_the_longer_wait() {
         let queue: Queue = guests.into_iter().collect();
         let searched = queue.greedy(PAIRS, &roster).unwrap();
         assert_eq!(searched.players(), [1, picked]);
-        let mut hall = Hall::new();
+        let mut hall = hall(0);
         for guest in &guests {
             hall.book(guest.player, Booking::of(guest)).unwrap();
         }
-        assert_eq!(hall.greedy_round(PAIRS, 9, &roster), Ok(searched));
+        assert_eq!(hall.greedy_round(0, 9, &roster), Ok(searched));
     }
 }
 
@@ -376,14 +378,17 @@ fn an_earlier_copy_may_take_a_seat() {
     }
 }
 
-/// Those who wait, each with the party that he booked with. A hall that was kept elsewhere may have somebody twice.
-fn parties(waiting: &[(u64, u64)]) -> Hall {
+const THREE: TeamComposition = TeamComposition { a: 2, b: 1 };
+const ONE: TeamComposition = TeamComposition { a: 1, b: 0 };
+
+/// Those who wait for a game of these sizes, each with the party that he booked with. A hall that was kept elsewhere may have somebody twice.
+fn parties(sizes: TeamComposition, waiting: &[(u64, u64)]) -> Hall {
     let booked = |&(player, party)| Booking {
         party,
         ..booking(player)
     };
     let bookings: Vec<Booking> = waiting.iter().map(booked).collect();
-    Hall::from(sys::Hall::of(&bookings, &[]))
+    Hall::from(sys::Hall::of(Games::of([sizes]), &bookings, &[]))
 }
 
 /// Guests with these parties, as the roster has them.
@@ -409,8 +414,8 @@ fn friends(parties: bool, waiting_friends: bool) -> RoundRules {
 }
 
 /// Whom a full round seats that scores all choices alike: the last of those that pass.
-fn seats(hall: &mut Hall, sizes: TeamComposition, rules: &RoundRules, roster: &Roster) -> Vec<u64> {
-    let round = hall.full_round(sizes, rules, &[], 0, roster).unwrap();
+fn seats(hall: &mut Hall, rules: &RoundRules, roster: &Roster) -> Vec<u64> {
+    let round = hall.full_round(0, rules, &[], 0, roster).unwrap();
     round.matches.players().to_vec()
 }
 
@@ -418,14 +423,14 @@ fn seats(hall: &mut Hall, sizes: TeamComposition, rules: &RoundRules, roster: &R
 #[test]
 fn a_friend_at_home_holds_back_by_the_roster_alone() {
     let roster = rostered(&[(1, 5), (2, 0), (9, 5)]);
-    let mut hall = parties(&[(1, 5), (2, 0)]);
+    let mut hall = parties(PAIRS, &[(1, 5), (2, 0)]);
     let by_roster = friends(true, false);
     assert_eq!(by_roster, RoundRules::from(by_roster.constraints.clone()));
-    assert_eq!(seats(&mut hall, PAIRS, &by_roster, &roster), []);
-    assert_eq!(seats(&mut hall, PAIRS, &friends(true, true), &roster), []);
+    assert_eq!(seats(&mut hall, &by_roster, &roster), []);
+    assert_eq!(seats(&mut hall, &friends(true, true), &roster), []);
     assert_eq!(hall.waiting().len(), 2);
     let by_bookings = friends(false, true);
-    assert_eq!(seats(&mut hall, PAIRS, &by_bookings, &roster), [1, 2]);
+    assert_eq!(seats(&mut hall, &by_bookings, &roster), [1, 2]);
     assert!(hall.waiting().is_empty());
 }
 
@@ -434,16 +439,15 @@ fn friends_who_wait_are_seated_together_or_not_at_all() {
     let nobody = Roster::new();
     let (free, together) = (RoundRules::default(), friends(false, true));
     let guests = [(1, 7), (2, 0), (3, 7)];
-    assert_eq!(seats(&mut parties(&guests), PAIRS, &free, &nobody), [2, 3]);
-    let mut hall = parties(&guests);
-    assert_eq!(seats(&mut hall, PAIRS, &together, &nobody), [1, 3]);
+    assert_eq!(seats(&mut parties(PAIRS, &guests), &free, &nobody), [2, 3]);
+    let mut hall = parties(PAIRS, &guests);
+    assert_eq!(seats(&mut hall, &together, &nobody), [1, 3]);
     assert_eq!(hall.waiting(), [booking(2)]);
     // One seat parts them; a third friend does not fit.
-    let one = TeamComposition { a: 1, b: 0 };
-    assert_eq!(seats(&mut parties(&guests), one, &together, &nobody), [2]);
+    assert_eq!(seats(&mut parties(ONE, &guests), &together, &nobody), [2]);
     let three = [(1, 7), (2, 7), (3, 7)];
-    let mut hall = parties(&three);
-    let round = hall.full_round(PAIRS, &together, &[], 0, &nobody).unwrap();
+    let mut hall = parties(PAIRS, &three);
+    let round = hall.full_round(0, &together, &[], 0, &nobody).unwrap();
     assert!(round.matches.is_empty() && round.tried == 3);
     assert_eq!(hall.waiting().len(), 3);
 }
@@ -453,7 +457,7 @@ fn friends_who_wait_are_seated_together_or_not_at_all() {
 fn only_parties_of_bookings_make_waiting_friends() {
     let roster = rostered(&[(1, 5), (2, 0), (3, 5)]);
     let guests = [(1, 0), (2, 0), (3, 0)];
-    let seats = |rules| seats(&mut parties(&guests), PAIRS, &rules, &roster);
+    let seats = |rules| seats(&mut parties(PAIRS, &guests), &rules, &roster);
     assert_eq!(seats(friends(false, true)), [2, 3]);
     assert_eq!(seats(friends(true, false)), [1, 3]);
     assert_eq!(seats(friends(true, true)), [1, 3]);
@@ -462,10 +466,9 @@ fn only_parties_of_bookings_make_waiting_friends() {
 /// Guests 1 and 3 come together; on the roster 1 and 2 are friends.
 #[test]
 fn both_kinds_of_parties_at_once() {
-    const THREE: TeamComposition = TeamComposition { a: 2, b: 1 };
     let roster = rostered(&[(1, 5), (2, 5), (3, 0), (4, 0)]);
     let guests = [(1, 7), (2, 0), (3, 7), (4, 0)];
-    let seats = |rules| seats(&mut parties(&guests), THREE, &rules, &roster);
+    let seats = |rules| seats(&mut parties(THREE, &guests), &rules, &roster);
     assert_eq!(seats(friends(false, false)), [2, 3, 4]);
     assert_eq!(seats(friends(false, true)), [1, 3, 4]);
     assert_eq!(seats(friends(true, false)), [1, 2, 4]);
@@ -476,10 +479,11 @@ fn both_kinds_of_parties_at_once() {
 #[test]
 fn a_guest_of_two_parties() {
     let (nobody, together) = (Roster::new(), friends(false, true));
-    let mut hall = parties(&[(1, 7), (2, 7), (2, 8), (3, 8)]);
-    assert_eq!(seats(&mut hall, PAIRS, &together, &nobody), []);
-    assert_eq!(hall.waiting().len(), 4);
-    let three = TeamComposition { a: 2, b: 1 };
-    assert_eq!(seats(&mut hall, three, &together, &nobody), [1, 2, 3]);
-    assert!(hall.waiting().is_empty());
+    let guests = [(1, 7), (2, 7), (2, 8), (3, 8)];
+    let mut pairs = parties(PAIRS, &guests);
+    assert_eq!(seats(&mut pairs, &together, &nobody), []);
+    assert_eq!(pairs.waiting().len(), 4);
+    let mut three = parties(THREE, &guests);
+    assert_eq!(seats(&mut three, &together, &nobody), [1, 2, 3]);
+    assert!(three.waiting().is_empty());
 }

@@ -1,8 +1,21 @@
-//! The hall: keyed bookings, keyed withdrawals and the three rounds. Each call gets the hall and gives the hall that it leaves.
+//! The hall: keyed bookings, keyed withdrawals, the three rounds of a game and the dispatch. Each call gets the hall and gives the
+//! hall that it leaves.
 
 use crate::{
     BeamSearch, Constraints, MatchObjective, Queue, QueueEntry, SoftObjectives, TeamComposition,
 };
+
+/// What stands in the place of a game's number where no game was served.
+pub const NONE_SERVED: u8 = 255;
+
+/// The sizes of the games 0 to 7, which share a hall's places and its keys. A game that is not used has sizes 0 and 0; by default no
+/// game is used.
+#[repr(C)]
+#[derive(Clone, Copy, Debug, Default, PartialEq, Eq)]
+pub struct Games {
+    /// Game by game.
+    pub sizes: [TeamComposition; 8],
+}
 
 /// What a booking brings beside its key, and what waits.
 #[repr(C)]
@@ -18,6 +31,8 @@ pub struct Booking {
     pub party: u64,
     /// 0 for none.
     pub role: u32,
+    /// 0 to 7; one that is not used is taken too.
+    pub game: u8,
 }
 
 /// What is noted beside a key.
@@ -32,8 +47,9 @@ pub struct Note {
     pub answer: u8,
 }
 
-/// The first `waiting` bookings wait, in the order of coming. The first `noted` keys are noted, in the order of coming, each with the
-/// note at its place. The places behind mean nothing.
+/// The first `waiting` bookings wait, in the order of coming, for whatever game. The first `noted` keys are noted, in the order of coming,
+/// each with the note at its place. The places behind mean nothing. `sizes` are those of the games, and `served` is the last game that a
+/// dispatch served, or [`NONE_SERVED`].
 #[repr(C)]
 #[derive(Clone, Copy)]
 pub struct Hall {
@@ -42,6 +58,8 @@ pub struct Hall {
     pub keys: [u64; 1024],
     pub notes: [Note; 1024],
     pub noted: usize,
+    pub sizes: [TeamComposition; 8],
+    pub served: u8,
 }
 
 /// The hall as a keyed call leaves it.
@@ -53,7 +71,7 @@ pub struct Keyed {
 }
 
 /// What the match of a full round must meet: the constraints that are brought and, where waiting friends are, that everyone is seated
-/// who waits with the party, other than 0, of an entry of a seated guest.
+/// who waits for the round's game with the party, other than 0, of an entry of a seated guest.
 #[repr(C)]
 #[derive(Clone, Copy, Debug)]
 pub struct RoundRules {
@@ -61,25 +79,56 @@ pub struct RoundRules {
     pub waiting_friends: bool,
 }
 
-/// `count` and `tried` are 0 where refused; `tried` is a full round's.
+/// `count` and `tried` are 0 where refused; `tried` is a full round's. `served` is the game that a dispatch served, and [`NONE_SERVED`]
+/// where it served none, was refused, or is another round.
 #[repr(C)]
 #[derive(Clone, Copy)]
 pub struct Rounded {
     pub hall: Hall,
     pub count: usize,
     pub tried: u64,
+    pub served: u8,
     pub refusal: u8,
 }
 
+impl Games {
+    /// The first games, from 0 on, with these sizes; the others are not used.
+    ///
+    /// ```
+    /// use yilgashe_sys::{Games, TeamComposition};
+    ///
+    /// let (fives, twos) = (TeamComposition { a: 5, b: 5 }, TeamComposition { a: 2, b: 2 });
+    /// let games = Games::of([fives, twos]);
+    /// assert_eq!((games.sizes[0], games.sizes[1]), (fives, twos));
+    /// assert_eq!(games.sizes[2..], [TeamComposition::default(); 6]);
+    /// ```
+    ///
+    /// More than eight do not compile:
+    ///
+    /// ```compile_fail,E0080
+    /// use yilgashe_sys::{Games, TeamComposition};
+    ///
+    /// Games::of([TeamComposition::default(); 9]);
+    /// ```
+    pub fn of<const N: usize>(sizes: [TeamComposition; N]) -> Self {
+        const { assert!(N <= 8, "a hall has eight games") };
+        let mut games = Games::default();
+        games.sizes[..N].copy_from_slice(&sizes);
+        games
+    }
+}
+
 impl Hall {
-    /// With these bookings, and these keys with their notes; at most 64 and 1,024.
-    pub fn of(bookings: &[Booking], answered: &[(u64, Note)]) -> Self {
+    /// With these games, none of them served, these bookings, and these keys with their notes; at most 64 and 1,024.
+    pub fn of(games: Games, bookings: &[Booking], answered: &[(u64, Note)]) -> Self {
         let mut hall = Hall {
             bookings: [Booking::default(); 64],
             waiting: bookings.len(),
             keys: [0; 1024],
             notes: [Note::default(); 1024],
             noted: answered.len(),
+            sizes: games.sizes,
+            served: NONE_SERVED,
         };
         hall.bookings[..bookings.len()].copy_from_slice(bookings);
         for (place, &(key, note)) in answered.iter().enumerate() {
@@ -93,7 +142,7 @@ impl Hall {
         &self.bookings[..self.waiting.min(64)]
     }
 
-    /// Those who wait, as a queue that states their number, over 64 too.
+    /// Those who wait, for whatever game, as a queue that states their number, over 64 too.
     pub fn queue(&self) -> Queue {
         Queue {
             entries: self.bookings.map(|booking| booking.entry()),
@@ -108,7 +157,7 @@ impl Hall {
 }
 
 impl Booking {
-    /// The booking that makes this entry.
+    /// The booking for game 0 that makes this entry.
     pub fn of(entry: &QueueEntry) -> Self {
         Booking {
             player: entry.player,
@@ -116,10 +165,11 @@ impl Booking {
             rating: entry.rating,
             party: entry.party,
             role: entry.role,
+            game: 0,
         }
     }
 
-    /// The entry that it makes in a round's queue.
+    /// The entry that it makes in the queue of a round of its game.
     pub fn entry(&self) -> QueueEntry {
         QueueEntry {
             player: self.player,
@@ -133,12 +183,12 @@ impl Booking {
 
 // Functions without a pointer are safe: each is total over every input.
 unsafe extern "C" {
-    safe fn yilgashe_hall_empty() -> Hall;
+    safe fn yilgashe_hall_empty(games: Games) -> Hall;
     safe fn yilgashe_hall_book(hall: Hall, key: u64, booking: Booking) -> Keyed;
     safe fn yilgashe_hall_withdraw(hall: Hall, key: u64, player: u64) -> Keyed;
     fn yilgashe_hall_greedy_round(
         hall: Hall,
-        sizes: TeamComposition,
+        game: u8,
         clock: u64,
         ids: *const u64,
         ids_len: usize,
@@ -152,7 +202,7 @@ unsafe extern "C" {
     fn yilgashe_hall_beam_round(
         hall: Hall,
         search: BeamSearch,
-        sizes: TeamComposition,
+        game: u8,
         objective: MatchObjective,
         clock: u64,
         ids: *const u64,
@@ -168,7 +218,7 @@ unsafe extern "C" {
     ) -> Rounded;
     fn yilgashe_hall_full_round(
         hall: Hall,
-        sizes: TeamComposition,
+        game: u8,
         rules: RoundRules,
         objectives: SoftObjectives,
         clock: u64,
@@ -187,13 +237,25 @@ unsafe extern "C" {
         qualities: *mut f64,
         qualities_len: usize,
     ) -> Rounded;
+    fn yilgashe_hall_dispatch(
+        hall: Hall,
+        clock: u64,
+        ids: *const u64,
+        ids_len: usize,
+        ratings: *const f64,
+        ratings_len: usize,
+        players: *mut u64,
+        players_len: usize,
+        qualities: *mut f64,
+        qualities_len: usize,
+    ) -> Rounded;
 }
 
 // Inlined, so that a hall is copied once on its way in: a frame of its own would copy it once more.
 
 #[inline]
-pub fn hall_empty() -> Hall {
-    yilgashe_hall_empty()
+pub fn hall_empty(games: Games) -> Hall {
+    yilgashe_hall_empty(games)
 }
 
 #[inline]
@@ -209,7 +271,7 @@ pub fn hall_withdraw(hall: Hall, key: u64, player: u64) -> Keyed {
 #[inline]
 pub fn hall_greedy_round(
     hall: Hall,
-    sizes: TeamComposition,
+    game: u8,
     clock: u64,
     ids: &[u64],
     ratings: &[f64],
@@ -220,7 +282,7 @@ pub fn hall_greedy_round(
     unsafe {
         yilgashe_hall_greedy_round(
             hall,
-            sizes,
+            game,
             clock,
             ids.as_ptr(),
             ids.len(),
@@ -239,7 +301,7 @@ pub fn hall_greedy_round(
 pub fn hall_beam_round(
     hall: Hall,
     search: BeamSearch,
-    sizes: TeamComposition,
+    game: u8,
     objective: MatchObjective,
     clock: u64,
     ids: &[u64],
@@ -253,7 +315,7 @@ pub fn hall_beam_round(
         yilgashe_hall_beam_round(
             hall,
             search,
-            sizes,
+            game,
             objective,
             clock,
             ids.as_ptr(),
@@ -274,7 +336,7 @@ pub fn hall_beam_round(
 #[allow(clippy::too_many_arguments)] // as many as the library's function takes
 pub fn hall_full_round(
     hall: Hall,
-    sizes: TeamComposition,
+    game: u8,
     rules: RoundRules,
     objectives: SoftObjectives,
     clock: u64,
@@ -290,7 +352,7 @@ pub fn hall_full_round(
     unsafe {
         yilgashe_hall_full_round(
             hall,
-            sizes,
+            game,
             rules,
             objectives,
             clock,
@@ -304,6 +366,32 @@ pub fn hall_full_round(
             roles.len(),
             regions.as_ptr(),
             regions.len(),
+            players.as_mut_ptr(),
+            players.len(),
+            qualities.as_mut_ptr(),
+            qualities.len(),
+        )
+    }
+}
+
+#[inline]
+pub fn hall_dispatch(
+    hall: Hall,
+    clock: u64,
+    ids: &[u64],
+    ratings: &[f64],
+    players: &mut [u64],
+    qualities: &mut [f64],
+) -> Rounded {
+    // SAFETY: each pointer and length come from one slice; the call writes to the two lent to be changed alone.
+    unsafe {
+        yilgashe_hall_dispatch(
+            hall,
+            clock,
+            ids.as_ptr(),
+            ids.len(),
+            ratings.as_ptr(),
+            ratings.len(),
             players.as_mut_ptr(),
             players.len(),
             qualities.as_mut_ptr(),

@@ -46,10 +46,11 @@ layout! {
     GreedyNearestGenerator, 8, max at 0;
     Formed, 16, count at 0, refusal at 8;
     Chosen, 160, teams at 0, tried at 144, found at 152, refusal at 153;
-    Booking, 40, player at 0, joined at 8, rating at 16, party at 24, role at 32;
+    Games, 128, sizes at 0;
+    Booking, 40, player at 0, joined at 8, rating at 16, party at 24, role at 32, game at 36;
     Note, 16, player at 0, kind at 8, answer at 9;
-    Hall, 27152, bookings at 0, waiting at 2560, keys at 2568, notes at 10760, noted at 27144;
-    Keyed, 27160, hall at 0, refusal at 27152;
+    Hall, 27288, bookings at 0, waiting at 2560, keys at 2568, notes at 10760, noted at 27144, sizes at 27152, served at 27280;
+    Keyed, 27296, hall at 0, refusal at 27288;
     RoundRules, 336, constraints at 0, waiting_friends at 328;
-    Rounded, 27176, hall at 0, count at 27152, tried at 27160, refusal at 27168;
+    Rounded, 27312, hall at 0, count at 27288, tried at 27296, served at 27304, refusal at 27305;
 }

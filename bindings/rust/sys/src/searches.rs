@@ -4,7 +4,7 @@ use crate::{MatchObjective, Queue};
 
 /// The sizes of the two teams, each 0 to 8.
 #[repr(C)]
-#[derive(Clone, Copy, Debug, PartialEq, Eq)]
+#[derive(Clone, Copy, Debug, Default, PartialEq, Eq)]
 pub struct TeamComposition {
     /// Of team A.
     pub a: usize,

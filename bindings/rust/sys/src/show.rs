@@ -1,4 +1,4 @@
-//! How queues, halls, matches and lists of objectives print: an entry, key, team or list a line, the bits of a rating beside it.
+//! How queues, halls, matches and lists of objectives print: an entry, booking, key, team or list a line, the bits of a rating beside it.
 
 use crate::{Hall, ProposedMatch, Queue, QueueEntry, SoftObjectives, Team};
 use std::fmt::{Debug, Formatter, Result};
@@ -30,7 +30,14 @@ impl Debug for Queue {
 
 impl Debug for Hall {
     fn fmt(&self, f: &mut Formatter<'_>) -> Result {
-        write!(f, "hall, {:?}\n      {} noted", self.queue(), self.noted)?;
+        let sizes = self.sizes.map(|game| (game.a, game.b));
+        write!(f, "hall of games {sizes:?}, served {}", self.served)?;
+        write!(f, "\n      {} waiting", self.waiting)?;
+        for (place, booking) in self.booked().iter().enumerate() {
+            let entry = booking.entry();
+            write!(f, "\n      {place:2}: {entry:?} game {}", booking.game)?;
+        }
+        write!(f, "\n      {} noted", self.noted)?;
         for (key, note) in self.answered() {
             write!(f, "\n      key {key}: {note:?}")?;
         }

@@ -574,31 +574,53 @@ fn noted(key: u64, player: u64, kind: u8, answer: u8) -> (u64, Note) {
     (key, note)
 }
 
+/// The n-th booking, for each game by turns.
 fn booking(n: u64) -> Booking {
-    Booking::of(&entry(n))
-}
-
-/// Those who wait in the queue wait in the hall.
-fn hall_of(queue: &Queue, answered: &[(u64, Note)]) -> Hall {
-    let bookings: Vec<Booking> = queue.waiting().iter().map(Booking::of).collect();
-    Hall::of(&bookings, answered)
+    Booking {
+        game: n as u8 % 8,
+        ..Booking::of(&entry(n))
+    }
 }
 
 fn answered(hall: &Hall) -> Vec<(u64, Note)> {
     hall.answered().collect()
 }
 
+/// Eight games of nine seats, no two alike: 1 and 8, 2 and 7, .., 8 and 1.
+fn nines() -> Games {
+    Games::of::<8>(from_fn(|g| TeamComposition { a: g + 1, b: 8 - g }))
+}
+
+/// The sizes of all games stand in the empty hall. Those over 8 are refused by the next call, which hands them back.
+#[test]
+fn sizes_of_all_games() {
+    let own = |n| wide(n as u64) as usize;
+    let games = Games::of::<8>(from_fn(|g| TeamComposition {
+        a: own(2 * g),
+        b: own(2 * g + 1),
+    }));
+    let hall = hall_empty(games);
+    assert_eq!((hall.waiting, hall.noted, hall.served), (0, 0, NONE_SERVED));
+    assert_eq!(hall.sizes, games.sizes);
+    let told = hall_book(hall, 1, booking(0));
+    assert_eq!((told.refusal, told.hall.noted), (1, 0));
+    assert_eq!(told.hall.sizes, games.sizes);
+    assert_eq!(Games::of([TWO_ONE]).sizes[0], TWO_ONE);
+    assert_eq!(Games::of([TWO_ONE]).sizes[1..], Games::default().sizes[1..]);
+}
+
 /// Each booking waits as it came, and its key gets its note; the 65th meets a full hall, and a resend the noted answer.
 #[test]
 fn fields_of_bookings() {
-    let mut hall = hall_empty();
-    assert_eq!((hall.waiting, hall.noted), (0, 0));
+    let mut hall = hall_empty(nines());
+    hall.served = 3;
     for n in 0..65 {
         let told = hall_book(hall, !wide(n), booking(n));
         assert_eq!(told.refusal, if n == 64 { 10 } else { 0 });
         hall = told.hall;
         let last = noted(!wide(n), wide(n), 0, told.refusal);
         assert_eq!(hall.answered().last(), Some(last));
+        assert_eq!((hall.sizes, hall.served), (nines().sizes, 3));
     }
     let again = hall_book(hall, !wide(64), booking(64));
     assert_eq!((again.refusal, again.hall.noted), (10, 65));
@@ -612,27 +634,40 @@ fn fields_of_bookings() {
     assert_eq!(gone.refusal, 11);
     let last = [noted(5, wide(0), 1, 0), noted(6, wide(0), 1, 11)];
     assert_eq!(answered(&gone.hall)[65..], last);
+    assert_eq!((gone.hall.sizes, gone.hall.served), (nines().sizes, 3));
 }
 
-/// 1,024 keys and notes, every field of its own, come back from a call that is refused, and answer by any of them.
+/// 1,024 keys and notes, every field of its own.
+fn all_notes() -> Vec<(u64, Note)> {
+    let answers = [0, 4, 9, 10, 13, 0, 11, 0, 11, 0];
+    let own = |n: u64| {
+        noted(
+            0x1122_3344_5566_0000 + n,
+            0x99aa_bbcc_ddee_0000 + n,
+            (n / 5 % 2) as u8,
+            answers[n as usize % 10],
+        )
+    };
+    (0..1024).map(own).collect()
+}
+
+/// They come back from a call that is refused, and answer by any of them. So does each booking's game, though no call accepts one over 7.
 #[test]
 fn fields_of_notes() {
-    let answers = [0, 4, 9, 10, 0, 11, 0, 11];
-    let notes: Vec<(u64, Note)> = (0..1024)
-        .map(|n| {
-            noted(
-                0x1122_3344_5566_0000 + n,
-                0x99aa_bbcc_ddee_0000 + n,
-                (n / 4 % 2) as u8,
-                answers[n as usize % 8],
-            )
-        })
-        .collect();
-    let mut hall = hall_of(&full_queue(), &notes);
-    let told = hall_book(hall, 1, booking(0));
+    let notes = all_notes();
+    let bookings: [Booking; 64] = from_fn(|n| Booking {
+        game: 0x95 + n as u8,
+        ..Booking::of(&entry(n as u64))
+    });
+    let hall = Hall::of(nines(), &bookings, &notes);
+    let nowhere = Booking {
+        game: 8,
+        ..booking(0)
+    };
+    let told = hall_book(hall, 1, nowhere);
     assert_eq!(told.refusal, 8);
     assert_eq!(answered(&told.hall), notes);
-    assert_eq!(told.hall.booked(), hall.booked());
+    assert_eq!(told.hall.booked(), bookings);
     for &(key, note) in notes.iter().step_by(31) {
         let again = Booking {
             player: note.player,
@@ -647,72 +682,75 @@ fn fields_of_notes() {
         };
         assert_eq!((booked.refusal, left.refusal), due);
     }
-    hall.noted = 1025;
-    assert_eq!(hall_withdraw(hall, 1, 1).refusal, 1);
-    (hall.noted, hall.waiting) = (1024, 65);
-    assert_eq!(hall_withdraw(hall, 1, 1).refusal, 1);
 }
 
-fn hall_of_four() -> Hall {
-    hall_of(&four(), &[noted(wide(1), 1, 0, 0)])
-}
-
-/// Who still waits after a round, by which the hall's place in the answer shows.
-fn left(told: &Rounded) -> Vec<u64> {
-    assert_eq!(answered(&told.hall), [noted(wide(1), 1, 0, 0)]);
-    told.hall.booked().iter().map(|b| b.player).collect()
-}
-
-#[test]
-fn answer_of_a_greedy_round() {
-    let (mut players, mut qualities) = sheets();
-    let mut round = |clock| {
-        hall_greedy_round(
-            hall_of_four(),
-            TWO_ONE,
-            clock,
-            &IDS,
-            &RATINGS,
-            &mut players,
-            &mut qualities,
-        )
+/// Guest 9 waits for game 6, which is not used, and then the four for game 5 with these sizes. Game 4 was served last.
+fn five_guests(sizes: TeamComposition) -> Hall {
+    let mut games = Games::default();
+    games.sizes[5] = sizes;
+    let rated = |n: usize, player, game| Booking {
+        player,
+        rating: RATINGS[n],
+        game,
+        ..Booking::default()
     };
-    let late = round(LATE);
-    assert_eq!((late.refusal, late.count, left(&late).len()), (4, 0, 4));
-    let told = round(0);
-    assert_eq!((told.refusal, told.count, told.tried), (0, 1, 0));
-    assert_eq!(
-        (&players[..4], left(&told)),
-        (&[1, 4, 3, u64::MAX][..], vec![2])
-    );
+    let [one, two, three, four] = from_fn(|n| rated(n, IDS[n], 5));
+    let bookings = [rated(0, 9, 6), one, two, three, four];
+    let mut hall = Hall::of(games, &bookings, &[noted(wide(1), 9, 0, 0)]);
+    hall.served = 4;
+    hall
 }
 
-#[test]
-fn answer_of_a_beam_round() {
-    let (mut players, mut qualities) = sheets();
-    let mut round = |clock| {
-        hall_beam_round(
-            hall_of_four(),
-            BeamSearch { width: 32 },
-            ONE_TWO,
-            QUALITY,
-            clock,
-            &IDS,
-            &RATINGS,
-            &[0.0; 4],
-            &mut players,
-            &mut qualities,
-        )
-    };
-    let late = round(LATE);
-    assert_eq!((late.refusal, late.count, left(&late).len()), (4, 0, 4));
-    let told = round(0);
-    assert_eq!((told.refusal, told.count, told.tried), (0, 1, 0));
-    assert_eq!(
-        (&players[..4], left(&told)),
-        (&[1, 3, 4, u64::MAX][..], vec![2])
-    );
+/// A call of a round: the hall, the game, the clock, and the sheets.
+type Round = fn(Hall, u8, u64, &mut [u64], &mut [f64]) -> Rounded;
+
+fn greedy(hall: Hall, game: u8, clock: u64, players: &mut [u64], qualities: &mut [f64]) -> Rounded {
+    hall_greedy_round(hall, game, clock, &IDS, &RATINGS, players, qualities)
 }
+
+fn beam(hall: Hall, game: u8, clock: u64, players: &mut [u64], qualities: &mut [f64]) -> Rounded {
+    let search = BeamSearch { width: 32 };
+    hall_beam_round(
+        hall, search, game, QUALITY, clock, &IDS, &RATINGS, &[0.0; 4], players, qualities,
+    )
+}
+
+/// With these rules, and one soft objective of this kind.
+fn full_by(
+    (rules, kind): (RoundRules, u8),
+    hall: Hall,
+    game: u8,
+    clock: u64,
+    (players, qualities): (&mut [u64], &mut [f64]),
+) -> Rounded {
+    hall_full_round(
+        hall,
+        game,
+        rules,
+        wishes(kind, 1.0),
+        clock,
+        &IDS,
+        &RATINGS,
+        &[5, 5, 0, 0],
+        &[0; 4],
+        &[0; 4],
+        players,
+        qualities,
+    )
+}
+
+fn full(hall: Hall, game: u8, clock: u64, players: &mut [u64], qualities: &mut [f64]) -> Rounded {
+    let free = (ruled(no_rules()), 0);
+    full_by(free, hall, game, clock, (players, qualities))
+}
+
+/// It names no game.
+fn dispatch(hall: Hall, _: u8, clock: u64, players: &mut [u64], qualities: &mut [f64]) -> Rounded {
+    hall_dispatch(hall, clock, &IDS, &RATINGS, players, qualities)
+}
+
+const OF_A_GAME: [Round; 3] = [greedy, beam, full];
+const ROUNDS: [Round; 4] = [greedy, beam, full, dispatch];
 
 /// The constraints alone, without waiting friends.
 fn ruled(constraints: Constraints) -> RoundRules {
@@ -722,70 +760,209 @@ fn ruled(constraints: Constraints) -> RoundRules {
     }
 }
 
+/// The numbers of an answer: refusal, matches, choices, and the game served.
+fn numbers(told: &Rounded) -> (u8, usize, u64, u8) {
+    (told.refusal, told.count, told.tried, told.served)
+}
+
+/// Who still waits after a round, and which game was served last, by which the hall's place in the answer shows.
+fn left(told: &Rounded, sizes: TeamComposition) -> (Vec<u64>, u8) {
+    assert_eq!(answered(&told.hall), [noted(wide(1), 9, 0, 0)]);
+    assert_eq!(told.hall.sizes, five_guests(sizes).sizes);
+    let waiting = told.hall.booked().iter().map(|b| b.player);
+    (waiting.collect(), told.hall.served)
+}
+
+/// Each hands back the hall without the seated, how many matches and choices there were, and the game served.
 #[test]
-fn answer_of_a_full_round() {
-    let (mut players, mut qualities) = sheets();
-    let mut round = |constraints, clock| {
-        hall_full_round(
-            hall_of_four(),
-            TWO_ONE,
-            ruled(constraints),
-            wishes(0, 1.0),
-            clock,
-            &IDS,
-            &RATINGS,
-            &[0; 4],
-            &[0; 4],
-            &[0; 4],
-            &mut players,
-            &mut qualities,
-        )
+fn answers_of_rounds() {
+    let answer = |round: Round, sizes| {
+        let (mut players, mut qualities) = sheets();
+        let told = round(five_guests(sizes), 5, 0, &mut players, &mut qualities);
+        assert_eq!((players[3], qualities[1]), (u64::MAX, -1.0));
+        let seated = [players[0], players[1], players[2]];
+        (numbers(&told), seated, left(&told, sizes))
     };
-    let mut unmet = no_rules();
-    unmet.brought.sizes = true;
-    let none = round(unmet, 0);
-    assert_eq!((none.refusal, none.count, none.tried), (0, 0, 4));
-    let late = round(no_rules(), LATE);
-    assert_eq!((late.refusal, late.count, late.tried), (4, 0, 0));
-    assert_eq!(left(&late).len(), 4);
-    let told = round(no_rules(), 0);
-    assert_eq!((told.refusal, told.count, told.tried), (0, 1, 4));
-    assert_eq!(
-        (&players[..4], left(&told)),
-        (&[1, 2, 4, u64::MAX][..], vec![3])
-    );
-    assert_eq!((qualities[0], qualities[1]), (0.0, -1.0));
+    let none = NONE_SERVED;
+    let due = ((0, 1, 0, none), [1, 4, 3], (vec![9, 2], 4));
+    assert_eq!(answer(greedy, TWO_ONE), due);
+    let due = ((0, 1, 0, none), [1, 3, 4], (vec![9, 2], 4));
+    assert_eq!(answer(beam, ONE_TWO), due);
+    let due = ((0, 1, 4, none), [1, 2, 4], (vec![9, 3], 4));
+    assert_eq!(answer(full, TWO_ONE), due);
+    let due = ((0, 1, 0, 5), [1, 4, 3], (vec![9, 2], 5));
+    assert_eq!(answer(dispatch, TWO_ONE), due);
+}
+
+/// Does nothing but answer so.
+fn assert_idle(round: Round, hall: Hall, game: u8, clock: u64, answer: u8) {
+    let (mut players, mut qualities) = sheets();
+    let told = round(hall, game, clock, &mut players, &mut qualities);
+    assert_eq!(numbers(&told), (answer, 0, 0, NONE_SERVED));
+    assert_eq!((players, qualities), sheets());
+    assert_eq!(told.hall.booked(), hall.booked());
+    assert_eq!(told.hall.waiting, hall.waiting);
+    assert_eq!((told.hall.sizes, told.hall.served), (hall.sizes, 4));
+}
+
+/// A clock, or the joined time of anyone who waits, for another game too.
+#[test]
+fn late_rounds() {
+    for round in ROUNDS {
+        let mut hall = five_guests(TWO_ONE);
+        assert_idle(round, hall, 5, LATE, 4);
+        hall.bookings[0].joined = LATE;
+        assert_idle(round, hall, 5, 0, 4);
+    }
+}
+
+/// Before anything else: the hall is over its limits, the clock late, and the soft kind none.
+#[test]
+fn rounds_of_no_game() {
+    let no_kind: Round = |hall, game, clock, players, qualities| {
+        let rules = ruled(no_rules());
+        full_by((rules, 3), hall, game, clock, (players, qualities))
+    };
+    let mut hall = five_guests(TWO_ONE);
+    assert_idle(no_kind, hall, 5, LATE, 1);
+    hall.waiting = 65;
+    for game in [8, 9, 128, 255] {
+        for round in OF_A_GAME.into_iter().chain([no_kind]) {
+            assert_idle(round, hall, game, LATE, 13);
+        }
+    }
+    assert_idle(dispatch, hall, 255, LATE, 1);
+}
+
+/// In a booking it comes behind what the key says and before all else, and it is noted.
+#[test]
+fn bookings_for_no_game() {
+    let hall = five_guests(TWO_ONE);
+    let nowhere = Booking {
+        player: 9,
+        joined: LATE,
+        game: 8,
+        ..Booking::default()
+    };
+    let told = hall_book(hall, 7, nowhere);
+    assert_eq!((told.refusal, told.hall.waiting), (13, 5));
+    assert_eq!(answered(&told.hall)[1..], [noted(7, 9, 0, 13)]);
+    let again = hall_book(told.hall, 7, nowhere);
+    assert_eq!((again.refusal, again.hall.noted), (13, 2));
+    let asks = |key, player, joined, game| {
+        let booking = Booking {
+            player,
+            joined,
+            game,
+            ..Booking::default()
+        };
+        hall_book(told.hall, key, booking).refusal
+    };
+    assert_eq!(asks(7, 8, LATE, 8), 7);
+    assert_eq!(asks(70, 9, LATE, 7), 4);
+    assert_eq!(asks(70, 9, 0, 7), 9);
+    assert_eq!(asks(70, 8, 0, 7), 0);
+}
+
+/// What every call answers for this hall, if all answer the same.
+fn one_answer(hall: Hall) -> Option<u8> {
+    let (mut players, mut qualities) = sheets();
+    let refusal = hall_book(hall, 5, booking(0)).refusal;
+    let mut same = hall_withdraw(hall, 5, 9).refusal == refusal;
+    for round in ROUNDS {
+        same &= round(hall, 5, 0, &mut players, &mut qualities).refusal == refusal;
+    }
+    same.then_some(refusal)
+}
+
+/// A size over 8 in any game, used or not; a last game served that is neither a game nor none; too many bookings or keys.
+#[test]
+fn limits_of_a_hall() {
+    for n in 0..16 {
+        let sized = |size| {
+            let mut hall = five_guests(TWO_ONE);
+            let game = &mut hall.sizes[n / 2];
+            *(if n % 2 == 0 { &mut game.a } else { &mut game.b }) = size;
+            one_answer(hall)
+        };
+        let answers = [8, 9, usize::MAX].map(sized);
+        assert_eq!(answers, [Some(0), Some(1), Some(1)]);
+    }
+    let mut hall = five_guests(TWO_ONE);
+    for served in 0..=255 {
+        hall.served = served;
+        let due = u8::from(served > 7 && served != NONE_SERVED);
+        assert_eq!(one_answer(hall), Some(due));
+    }
+    hall.waiting = 65;
+    assert_eq!(one_answer(hall), Some(1));
+    (hall.waiting, hall.noted) = (5, 1025);
+    assert_eq!(one_answer(hall), Some(1));
+}
+
+/// A round has the sizes of its own game, as the constraint on sizes tells, and seats whoever waits for it; the others wait on.
+#[test]
+fn sizes_and_bookings_of_each_game() {
+    for game in 0..8 {
+        let turn = |n: usize| Booking {
+            game: (game + n as u8 % 2) % 8,
+            ..Booking::of(&entry(n as u64))
+        };
+        let bookings: [Booking; 18] = from_fn(turn);
+        let hall = Hall::of(nines(), &bookings, &[]);
+        let (mut players, mut qualities) = sheets();
+        let mut round = |a, b| {
+            let mut rules = ruled(no_rules());
+            rules.constraints.brought.sizes = true;
+            rules.constraints.sizes = TeamSizeConstraint { a, b };
+            full_by((rules, 0), hall, game, 0, (&mut players, &mut qualities))
+        };
+        let (a, b) = (game as usize + 1, 8 - game as usize);
+        let none = round(b, a);
+        assert_eq!(numbers(&none), (0, 0, 1, NONE_SERVED));
+        assert_eq!(none.hall.booked(), bookings);
+        let told = round(a, b);
+        assert_eq!(numbers(&told), (0, 1, 1, NONE_SERVED));
+        assert!((0..9).all(|n| players[n] == wide(2 * n as u64)));
+        assert_eq!(players[9], u64::MAX);
+        assert!((0..9).all(|n| told.hall.booked()[n] == turn(2 * n + 1)));
+        assert_eq!(told.hall.waiting, 9);
+    }
 }
 
 /// Guests 1 and 3 come as friends, and on the roster 1 and 2 are: neither kind looks at the other's parties.
 #[test]
 fn either_kind_of_party_in_a_full_round() {
-    let mut hall = hall_of_four();
-    (hall.bookings[0].party, hall.bookings[2].party) = (wide(9), wide(9));
+    let mut hall = five_guests(TWO_ONE);
+    (hall.bookings[1].party, hall.bookings[3].party) = (wide(9), wide(9));
     let seated = |parties, waiting_friends| {
         let (mut players, mut qualities) = sheets();
         let mut rules = ruled(no_rules());
         rules.constraints.brought.parties = parties;
         rules.waiting_friends = waiting_friends;
-        let told = hall_full_round(
-            hall,
-            TWO_ONE,
-            rules,
-            wishes(2, 1.0),
-            0,
-            &IDS,
-            &RATINGS,
-            &[5, 5, 0, 0],
-            &[0; 4],
-            &[0; 4],
-            &mut players,
-            &mut qualities,
-        );
-        assert_eq!((told.refusal, told.count, told.tried), (0, 1, 4));
+        let told = full_by((rules, 2), hall, 5, 0, (&mut players, &mut qualities));
+        assert_eq!(numbers(&told), (0, 1, 4, NONE_SERVED));
         [players[0], players[1], players[2]]
     };
     assert_eq!(seated(false, false), [2, 3, 4]);
     assert_eq!(seated(false, true), [1, 3, 4]);
     assert_eq!(seated(true, false), [1, 2, 4]);
     assert_eq!(seated(true, true), [1, 2, 3]);
+}
+
+#[test]
+fn no_choice_meets_the_rules() {
+    let mut rules = ruled(no_rules());
+    rules.constraints.brought.sizes = true;
+    let (mut players, mut qualities) = sheets();
+    let told = full_by(
+        (rules, 0),
+        five_guests(TWO_ONE),
+        5,
+        0,
+        (&mut players, &mut qualities),
+    );
+    assert_eq!(numbers(&told), (0, 0, 4, NONE_SERVED));
+    assert_eq!((players, qualities), sheets());
+    assert_eq!(left(&told, TWO_ONE), (vec![9, 1, 2, 3, 4], 4));
 }
