@@ -1,4 +1,4 @@
-//! Compiles `src/plain.c`, which the hall's calls are timed beside.
+//! Compiles the plain C that the hall's calls are timed beside.
 
 use std::env;
 use std::path::{Path, PathBuf};
@@ -16,19 +16,23 @@ const FLAGS: [&str; 8] = [
     "-c",
 ];
 
+const SOURCES: [&str; 2] = ["plain", "dispatch"];
+
 fn main() {
     let folder = PathBuf::from(variable("CARGO_MANIFEST_DIR"));
-    let source = folder.join("src/plain.c");
     let include = folder.join("../../include");
-    let object = PathBuf::from(variable("OUT_DIR")).join("plain.o");
+    let headers = [include.join("yilgashe.h"), folder.join("src/plain.h")];
     println!("cargo:rerun-if-env-changed=CC");
-    println!("cargo:rerun-if-changed={}", source.display());
-    println!(
-        "cargo:rerun-if-changed={}",
-        include.join("yilgashe.h").display()
-    );
-    compile(&source, &include, &object);
-    println!("cargo:rustc-link-arg={}", object.display());
+    for header in headers {
+        println!("cargo:rerun-if-changed={}", header.display());
+    }
+    for name in SOURCES {
+        let source = folder.join("src").join(format!("{name}.c"));
+        let object = PathBuf::from(variable("OUT_DIR")).join(format!("{name}.o"));
+        println!("cargo:rerun-if-changed={}", source.display());
+        compile(&source, &include, &object);
+        println!("cargo:rustc-link-arg={}", object.display());
+    }
 }
 
 fn variable(name: &str) -> String {

@@ -1,15 +1,10 @@
 /*
- * The hall's keyed calls in plain C by document 01's rules, and a round that seats nobody: what the library's calls are timed beside.
+ * The hall's keyed calls in plain C by the papers' rules, and a round that seats nobody: what the library's calls are timed beside.
  * Each takes the hall by value and hands it back by value: the caller copies it in, the call copies it out, and nothing else does.
  */
-#include "yilgashe.h"
+#include "plain.h"
 
 #include <string.h>
-
-static bool is_over(const yilgashe_hall *hall)
-{
-    return hall->waiting > YILGASHE_MAX_WAITING || hall->noted > YILGASHE_MAX_KEYS;
-}
 
 /* The place of a noted key, or how many are noted. */
 static size_t place_of(const yilgashe_hall *hall, uint64_t key)
@@ -37,7 +32,7 @@ static bool can_get(uint8_t kind, uint8_t answer)
         return answer == YILGASHE_ACCEPTED || answer == YILGASHE_NOT_WAITING;
     }
     return answer == YILGASHE_ACCEPTED || answer == YILGASHE_CLOCK || answer == YILGASHE_ALREADY_WAITING ||
-           answer == YILGASHE_HALL_FULL;
+           answer == YILGASHE_HALL_FULL || answer == YILGASHE_NO_SUCH_GAME;
 }
 
 /* What a note says to a call with its key. */
@@ -56,6 +51,9 @@ static void take_note(yilgashe_hall *hall, uint64_t key, uint64_t player, uint8_
 
 static uint8_t booking_answer(const yilgashe_hall *hall, const yilgashe_booking *booking)
 {
+    if (is_no_game(booking->game)) {
+        return YILGASHE_NO_SUCH_GAME;
+    }
     if (booking->joined > YILGASHE_MAX_TIME) {
         return YILGASHE_CLOCK;
     }
@@ -134,5 +132,5 @@ yilgashe_keyed plain_withdraw(yilgashe_hall hall, uint64_t key, uint64_t player)
 yilgashe_rounded plain_round(yilgashe_hall hall)
 {
     const uint8_t answer = is_over(&hall) ? YILGASHE_OVER_LIMIT : YILGASHE_ACCEPTED;
-    return (yilgashe_rounded){hall, 0, 0, answer};
+    return (yilgashe_rounded){hall, 0, 0, YILGASHE_NONE_SERVED, answer};
 }

@@ -2,11 +2,13 @@
 
 mod calls;
 mod copies;
+mod halls;
 mod rules;
 mod searches;
 
 pub use calls::*;
 pub use copies::*;
+pub use halls::*;
 pub use rules::*;
 pub use searches::*;
 

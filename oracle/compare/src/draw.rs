@@ -5,9 +5,11 @@
 mod choices;
 mod copies;
 mod lists;
+mod rounds;
 mod rules;
 mod scores;
 mod searches;
+mod single;
 
 pub use choices::*;
 pub use copies::*;
@@ -15,6 +17,7 @@ pub use lists::*;
 pub use rules::*;
 pub use scores::*;
 pub use searches::*;
+pub use single::*;
 
 use crate::data::Roster;
 use crate::model::{CLOCK_LIMIT, NO_RECORD, QUEUE_LIMIT, ROSTER_LIMIT};

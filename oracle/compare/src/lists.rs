@@ -1,24 +1,28 @@
 //! The hall on drawn lists of calls: the library beside the model after every call, greedy rounds in joining order beside the Rust
-//! too, and demand 3 on the library's own answers.
+//! too, and demand 3 and the turns of games on the library's own answers.
 
 mod beside;
+mod corners;
 mod counter;
 mod counts;
 mod demand;
+mod fair;
 mod friends;
 
 pub use counter::{Counter, Library, Modelled};
 pub use counts::{Befriended, Counts, Held};
+pub use fair::Windows;
 
-use crate::data::{Answer, Call};
+use crate::data::{Answer, Call, List};
 use crate::draw;
 use crate::rng::Rng;
 use crate::same::Same;
 use beside::beside_rust;
 use demand::{Ledger, Mark};
+use fair::Turns;
 use friends::friends;
 use std::fmt::Debug;
-use yilgashe_sys::{Hall, Note};
+use yilgashe_sys::{Games, Hall, Note};
 
 /// Lists until so many calls are made, then a quarter as many single calls; `show` gets each difference in words.
 pub fn run<L: Counter, M: Counter>(seed: u64, calls: u64, show: &mut dyn FnMut(String)) -> Counts {
@@ -27,7 +31,7 @@ pub fn run<L: Counter, M: Counter>(seed: u64, calls: u64, show: &mut dyn FnMut(S
         let number = counts.lists;
         let list = draw::list(&mut Rng::for_case(seed, "hall", number), number);
         counts.lists += 1;
-        counts.calls += list.len() as u64;
+        counts.calls += list.calls.len() as u64;
         if let Err(difference) = judge::<L, M>(&list, &mut counts) {
             counts.differences += 1;
             show(format!("list {number} of seed {seed}, {difference}"));
@@ -44,23 +48,24 @@ pub fn run<L: Counter, M: Counter>(seed: u64, calls: u64, show: &mut dyn FnMut(S
 }
 
 /// Serves a list on both sides, to the first difference.
-pub fn judge<L: Counter, M: Counter>(calls: &[Call], counts: &mut Counts) -> Result<(), String> {
-    let (mut library, mut model) = (L::open(), M::open());
-    let mut ledger = Ledger::default();
+pub fn judge<L: Counter, M: Counter>(list: &List, counts: &mut Counts) -> Result<(), String> {
+    let (mut library, mut model) = (L::open(list.games), M::open(list.games));
+    let (mut ledger, mut turns) = (Ledger::default(), Turns::default());
     let mut kept: Vec<(&Call, Answer)> = Vec::new();
     if !library.hall().same(&model.hall()) {
         return Err("the empty hall is not empty".into());
     }
-    for (place, call) in calls.iter().enumerate() {
+    for (place, call) in list.calls.iter().enumerate() {
         let before = library.hall();
         let answer = library.serve(call);
         let after = library.hall();
-        counts.count(call, &answer);
+        counts.count(call, &answer, &before);
         let agreed = agree(call, (&answer, &after), (&model.serve(call), &model.hall()));
         let marked = agreed.and_then(|()| {
             let mark = ledger.enter(call, &answer, &before, &after)?;
             counts.held.count(beside_rust(call, &answer, &before)?);
             counts.befriended.count(friends(call, &answer, &before));
+            turns.enter(call, &answer, &before);
             Ok(mark)
         });
         match marked.map_err(|difference| format!("call {place}: {difference}"))? {
@@ -68,12 +73,17 @@ pub fn judge<L: Counter, M: Counter>(calls: &[Call], counts: &mut Counts) -> Res
             Mark::Original | Mark::Other => kept.push((call, answer)),
         }
     }
-    without_resends::<L>(&kept, &library.hall())
+    counts.windows.add(turns.windows()?);
+    without_resends::<L>(list.games, &kept, &library.hall())
 }
 
 /// The list with resends left out: does it answer alike and end alike?
-fn without_resends<L: Counter>(calls: &[(&Call, Answer)], end: &Hall) -> Result<(), String> {
-    let mut library = L::open();
+fn without_resends<L: Counter>(
+    games: Games,
+    calls: &[(&Call, Answer)],
+    end: &Hall,
+) -> Result<(), String> {
+    let mut library = L::open(games);
     for (call, answer) in calls {
         let alone = library.serve(call);
         if !alone.same(answer) {
@@ -96,9 +106,9 @@ pub fn judge_single<L: Counter, M: Counter>(
 ) -> Result<(), String> {
     let (mut library, mut model) = (L::with(hall), M::with(hall));
     let (answer, expected) = (library.serve(call), model.serve(call));
-    counts.count_single(&answer);
+    counts.count_single(call, &answer, hall);
     let agreed = agree(call, (&answer, &library.hall()), (&expected, &model.hall()));
-    agreed.map_err(|difference| format!("{difference}\n  before: {:?}", hall.queue()))?;
+    agreed.map_err(|difference| format!("{difference}\n  before: {hall:?}"))?;
     counts.held_single.count(beside_rust(call, &answer, hall)?);
     counts.befriended_single.count(friends(call, &answer, hall));
     Ok(())
@@ -114,10 +124,12 @@ fn agree(
         return Ok(());
     }
     let answered = |hall: &Hall| -> Vec<(u64, Note)> { hall.answered().collect() };
-    let (queue, expected_queue) = (hall.queue(), expected_hall.queue());
-    let waiting = parted(queue.waiting(), expected_queue.waiting());
+    let waiting = parted(hall.booked(), expected_hall.booked());
     let notes = parted(&answered(hall), &answered(expected_hall));
-    let numbers = |hall: &Hall| format!("{} wait, {} notes", hall.waiting, hall.noted);
+    let numbers = |hall: &Hall| {
+        let (waiting, noted, served) = (hall.waiting, hall.noted, hall.served);
+        format!("{waiting} wait, {noted} notes, {served} served last")
+    };
     Err(format!(
         "{call:?}\n  expected: {expected:?}; {}\n  library:  {answer:?}; {}\n  waiting: {waiting}\n  notes: {notes}",
         numbers(expected_hall),

@@ -1,7 +1,7 @@
 //! When two answers are the same: floats bit for bit, save that all NaNs are equal and both zeros are equal.
 
 use crate::data::{Answer, Sheets};
-use yilgashe_sys::{Hall, MatchObjectiveVector, Note, Queue, QueueEntry};
+use yilgashe_sys::{Booking, Hall, MatchObjectiveVector, Note, Queue, QueueEntry};
 
 pub trait Same {
     fn same(&self, other: &Self) -> bool;
@@ -65,6 +65,12 @@ impl Same for QueueEntry {
     }
 }
 
+impl Same for Booking {
+    fn same(&self, other: &Self) -> bool {
+        self.entry().same(&other.entry()) && self.game == other.game
+    }
+}
+
 /// Places past `len` are free; a queue of `len` over 64 counts with all its places.
 impl Same for Queue {
     fn same(&self, other: &Self) -> bool {
@@ -79,19 +85,21 @@ impl Same for Sheets {
     }
 }
 
-/// All that it holds, in its order. Of keys and notes too, places past the stated number are free, and a number over 1,024 counts with
-/// all places.
+/// All that it holds, in its order. Places past the stated numbers are free; a number over 64 or 1,024 counts with all places.
 impl Same for Hall {
     fn same(&self, other: &Self) -> bool {
-        self.queue().same(&other.queue())
-            && self.noted == other.noted
+        (self.waiting, self.noted) == (other.waiting, other.noted)
+            && self.booked().same(other.booked())
             && self.answered().eq(other.answered())
+            && self.sizes == other.sizes
+            && self.served == other.served
     }
 }
 
 impl Same for Answer {
     fn same(&self, other: &Self) -> bool {
         (self.refusal, self.count, self.tried) == (other.refusal, other.count, other.tried)
+            && self.served == other.served
             && self.sheets.same(&other.sheets)
     }
 }
@@ -105,7 +113,8 @@ impl Same for MatchObjectiveVector {
 #[cfg(test)]
 mod tests {
     use super::*;
-    use yilgashe_sys::Booking;
+    use crate::data::booking;
+    use yilgashe_sys::Games;
 
     #[test]
     fn floats() {
@@ -149,6 +158,14 @@ mod tests {
     }
 
     #[test]
+    fn bookings_differ_in_game_and_entry() {
+        let one = booking(&entry(1), 3);
+        assert!(one.same(&one));
+        assert!(!one.same(&booking(&entry(1), 4)));
+        assert!(!one.same(&booking(&entry(2), 3)));
+    }
+
+    #[test]
     fn queues_count_up_to_len() {
         let queue = Queue::of(&[entry(1), entry(2)]);
         let mut other = queue;
@@ -179,13 +196,18 @@ mod tests {
             kind: 0,
             answer: 9,
         };
-        let hall = Hall::of(&[Booking::of(&entry(1))], &[(1, note), (2, note)]);
+        let waiting = [booking(&entry(1), 0)];
+        let hall = Hall::of(Games::default(), &waiting, &[(1, note), (2, note)]);
         let mut other = hall;
-        other.bookings[1] = Booking::of(&entry(9));
+        other.bookings[1] = booking(&entry(9), 0);
         (other.keys[2], other.notes[2].answer) = (9, 0);
         assert!(hall.same(&other));
-        let changes: [fn(&mut Hall); 9] = [
+        let changes: [fn(&mut Hall); 13] = [
             |hall| hall.bookings[0].rating = 3.0,
+            |hall| hall.bookings[0].game = 1,
+            |hall| hall.sizes[0].a = 1,
+            |hall| hall.sizes[7].b = 1,
+            |hall| hall.served = 0,
             |hall| hall.waiting = 0,
             |hall| hall.waiting = 2,
             |hall| hall.keys[1] = 9,
@@ -204,7 +226,7 @@ mod tests {
 
     #[test]
     fn halls_over_limit_count_whole() {
-        let mut hall = Hall::of(&[], &[]);
+        let mut hall = Hall::of(Games::default(), &[], &[]);
         (hall.waiting, hall.noted) = (65, 1025);
         assert!(hall.same(&hall.clone()));
         let changes: [fn(&mut Hall); 4] = [
@@ -226,16 +248,19 @@ mod tests {
             refusal: 0,
             count: 1,
             tried: 2,
+            served: Some(3),
             sheets: Sheets {
                 players: vec![1],
                 qualities: vec![f64::NAN],
             },
         };
         assert!(answer.same(&answer.clone()));
-        let changes: [fn(&mut Answer); 4] = [
+        let changes: [fn(&mut Answer); 6] = [
             |answer| answer.refusal = 1,
             |answer| answer.count = 2,
             |answer| answer.tried = 3,
+            |answer| answer.served = None,
+            |answer| answer.served = Some(4),
             |answer| answer.sheets.players[0] = 9,
         ];
         for change in changes {

@@ -2,7 +2,7 @@
 
 use compare::data::{Call, FullRound, Round, Rows, Search, Sheets, nothing_brought};
 use compare::lists::{Counter, Counts, Library, Modelled, judge_single};
-use yilgashe_sys::{Booking, Hall, RoundRules, SoftObjectives, TeamComposition};
+use yilgashe_sys::{Booking, Games, Hall, RoundRules, SoftObjectives, TeamComposition};
 
 /// What is brought of parties: those of the roster, those of the bookings, or both.
 #[derive(Clone, Copy)]
@@ -37,14 +37,15 @@ impl Lounge {
         self
     }
 
-    fn hall(&self) -> Hall {
+    /// All wait for game 0, which has these sizes.
+    fn hall(&self, sizes: TeamComposition) -> Hall {
         let booking = |&(player, party)| Booking {
             player,
             party,
             ..Booking::default()
         };
         let bookings: Vec<Booking> = self.waiting.iter().map(booking).collect();
-        Hall::of(&bookings, &[])
+        Hall::of(Games::of([sizes]), &bookings, &[])
     }
 
     fn rows(&self) -> Rows {
@@ -59,8 +60,8 @@ impl Lounge {
     }
 
     /// A full round in which the wait alone counts, with this weight.
-    fn round(&self, sizes: TeamComposition, kinds: Kinds, weight: f64) -> Call {
-        let search = Search::Full(FullRound {
+    fn round(&self, kinds: Kinds, weight: f64) -> Call {
+        let full = FullRound {
             rules: rules(kinds),
             objectives: SoftObjectives {
                 kinds: [2; 8],
@@ -68,10 +69,9 @@ impl Lounge {
                 len: 1,
             },
             rows: self.rows(),
-        });
+        };
         Call::Round(Box::new(Round {
-            search,
-            sizes,
+            search: Search::Full(0, full),
             clock: 0,
             sheets: Sheets {
                 players: vec![0; 64],
@@ -82,7 +82,7 @@ impl Lounge {
 
     /// Whom the round seats, the last of the choices that pass, and how many it tried.
     fn seats(&self, sizes: TeamComposition, kinds: Kinds) -> (Option<Vec<u64>>, u64) {
-        seats(&self.hall(), sizes, &self.round(sizes, kinds, 1.0))
+        seats(&self.hall(sizes), sizes, &self.round(kinds, 1.0))
     }
 }
 
@@ -156,10 +156,22 @@ fn a_friend_at_home_bars_by_the_roster_alone() {
 #[test]
 fn whoever_does_not_wait_is_no_friend() {
     let friends = Lounge::of(&[(1, 7), (2, 0), (3, 7)]);
-    let mut hall = friends.hall();
+    let mut hall = friends.hall(PAIR);
     hall.waiting = 2;
-    let call = friends.round(PAIR, Kinds::Waiting, 1.0);
+    let call = friends.round(Kinds::Waiting, 1.0);
     assert_eq!(seats(&hall, PAIR, &call), found(&[1, 2], 1));
+}
+
+/// Guest 1 waits with guest 3's party for another game, and for this one without.
+#[test]
+fn whoever_waits_for_another_game_is_no_friend() {
+    let friends = Lounge::of(&[(1, 7), (1, 0), (2, 0), (3, 7)]);
+    let call = friends.round(Kinds::Waiting, 1.0);
+    let mut hall = friends.hall(PAIR);
+    hall.bookings[0].game = 1;
+    assert_eq!(seats(&hall, PAIR, &call), found(&[2, 3], 3));
+    hall.bookings[1].party = 7;
+    assert_eq!(seats(&hall, PAIR, &call), found(&[1, 3], 3));
 }
 
 #[test]
@@ -219,11 +231,11 @@ fn an_empty_match_parts_nobody() {
 #[test]
 fn friends_leave_one_choice_whatever_it_scores() {
     let friends = Lounge::of(&[(1, 7), (2, 0), (3, 7)]);
-    let hall = friends.hall();
-    let unranked = friends.round(PAIR, Kinds::Neither, f64::NAN);
+    let hall = friends.hall(PAIR);
+    let unranked = friends.round(Kinds::Neither, f64::NAN);
     alike(&hall, &unranked);
     assert_eq!(Library::with(&hall).serve(&unranked).refusal, 5);
-    let one = friends.round(PAIR, Kinds::Waiting, f64::NAN);
+    let one = friends.round(Kinds::Waiting, f64::NAN);
     assert_eq!(seats(&hall, PAIR, &one), found(&[1, 3], 3));
 }
 

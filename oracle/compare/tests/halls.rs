@@ -1,79 +1,54 @@
 //! The hall's lists: what they reach, and that halls which keep other rules are found out.
 
-use compare::data::{Answer, Call, Round, Search};
-use compare::lists::{self, Counter, Counts, Library, Modelled};
+#[macro_use]
+mod wrong;
+
+use compare::data::{Answer, Call, FullRound, Round};
+use compare::lists::{Counter, Library, Modelled, Windows};
 use compare::model::hall::{Hall as Model, Kind, Note};
 use compare::model::{Choice, Greedy, Rule, earlier_place, friends_seated, longer_wait};
-use yilgashe_sys::{Hall, ProposedMatch, Queue, QueueEntry};
-
-/// On the default seed.
-fn run<L: Counter, M: Counter>(calls: u64) -> (Counts, Vec<String>) {
-    let mut differences = Vec::new();
-    let counts = lists::run::<L, M>(1, calls, &mut |difference| differences.push(difference));
-    (counts, differences)
-}
+use wrong::{found, run, said};
+use yilgashe_sys::{Booking, ProposedMatch, Queue, QueueEntry, TeamComposition};
 
 #[test]
 fn every_refusal_and_every_sort_of_round_is_reached() {
     let (counts, differences) = run::<Library, Modelled>(20_000);
     assert_eq!(differences, [""; 0]);
-    for number in 1..=11 {
+    for number in (1..=11).chain([13]) {
         assert!(counts.refused(number) > 20, "{number}\n{}", counts.lines());
     }
     assert_eq!(counts.refused(12), 0);
+    assert_eq!(counts.missing(), [""; 0], "{}", counts.lines());
+    let Windows { all, kept, tight } = counts.windows;
+    assert!(
+        all > kept && kept > 100 && tight > 5,
+        "{all} {kept} {tight}"
+    );
     assert!(counts.lists > 50 && counts.resends > 1000 && counts.matches() > 1000);
     for held in [counts.held, counts.held_single] {
         assert!(held.rust > 100 && held.model > 100, "{held:?}");
-        assert!(held.parted > 40 && held.parted < held.model, "{held:?}");
+        assert!(held.parted > 30 && held.parted < held.model, "{held:?}");
     }
     for friends in [counts.befriended, counts.befriended_single] {
         assert!(friends.brought > 200 && friends.both > 30, "{friends:?}");
         assert!(
-            friends.parted > 40 && friends.parted < friends.brought,
+            friends.parted > 30 && friends.parted < friends.brought,
             "{friends:?}"
         );
     }
     assert_eq!(counts.befriended.twofold, 0);
-    assert!(counts.befriended_single.twofold > 40);
-}
-
-/// A model that breaks one rule.
-macro_rules! wrong {
-    ($name:ident, $hall:ident, $call:ident, $serve:expr) => {
-        struct $name(Modelled);
-
-        impl Counter for $name {
-            fn open() -> Self {
-                $name(Modelled::open())
-            }
-
-            fn with(hall: &Hall) -> Self {
-                $name(Modelled::with(hall))
-            }
-
-            fn serve(&mut self, $call: &Call) -> Answer {
-                match &mut self.0 {
-                    Modelled::Within($hall) => $serve,
-                    over => over.serve($call),
-                }
-            }
-
-            fn hall(&self) -> Hall {
-                self.0.hall()
-            }
-        }
-    };
+    assert!(counts.befriended_single.twofold > 20);
 }
 
 wrong!(BooksResends, hall, call, {
     let (known, noted) = (hall.notes.clone(), hall.notes.len());
     let answer = hall.answer(call);
-    if let (Call::Book { key, entry }, 0) = (call, answer.refusal)
+    if let (Call::Book { key, booking }, 0) = (call, answer.refusal)
         && known.iter().any(|note| note.key == *key)
         && noted == hall.notes.len()
         && hall.waiting.len() < 64
     {
-        hall.waiting.push(*entry);
+        hall.waiting.push(*booking);
     }
     answer
 });
@@ -139,12 +114,12 @@ wrong!(
 
 /// Where a full round hands out a match: the passing choice that no later one `beats`.
 fn hands_out(hall: &mut Model, call: &Call, beats: fn(f64, f64) -> bool) -> Answer {
-    let waiting = hall.waiting.clone();
+    let before = hall.clone();
     let answer = hall.answer(call);
     let (Some((round, full)), 1..) = (call.full_round(), answer.count) else {
         return answer;
     };
-    let choice = Choice::of(Queue::of(&waiting), round.sizes, full);
+    let choice = choice(&before, round, full);
     let weighed = choice.listed().into_iter().zip(choice.weighed());
     let passing = weighed.filter(|(_, (passes, _))| *passes);
     let kept = passing.reduce(|kept, next| {
@@ -155,13 +130,19 @@ fn hands_out(hall: &mut Model, call: &Call, beats: fn(f64, f64) -> bool) -> Answ
         }
     });
     let teams = kept.map(|(teams, _)| teams);
-    seats(hall, waiting, round, answer, teams)
+    seats(hall, before.waiting, round, answer, teams)
+}
+
+/// What a full round of a game chooses from.
+fn choice(hall: &Model, round: &Round, full: &FullRound) -> Choice {
+    let game = round.game().expect("a full round names its game");
+    Choice::of(Queue::of(&hall.entries(game)), hall.sizes(game), full)
 }
 
 /// The answer of a full round, and the hall, with these teams seated in place of its own.
 fn seats(
     hall: &mut Model,
-    mut waiting: Vec<QueueEntry>,
+    mut waiting: Vec<Booking>,
     round: &Round,
     answer: Answer,
     teams: Option<ProposedMatch>,
@@ -171,7 +152,7 @@ fn seats(
         let seated = players(&teams);
         sheets.players[..seated.len()].copy_from_slice(&seated);
         sheets.qualities[0] = 0.0;
-        waiting.retain(|entry| !seated.contains(&entry.player));
+        waiting.retain(|booking| !seated.contains(&booking.player));
     }
     hall.waiting = waiting;
     Answer {
@@ -302,15 +283,28 @@ wrong!(
     })
 );
 
+wrong!(FriendsOfAllGames, hall, call, {
+    let all: Vec<QueueEntry> = hall.waiting.iter().map(Booking::entry).collect();
+    befriended(hall, call, |choice| {
+        best_where(choice, |_, teams| friends_seated(&all, &players(teams)))
+    })
+});
+
 /// A full round that brings waiting friends, and keeps them together by another rule.
 fn keeps(hall: &mut Model, call: &Call, rule: fn(&[QueueEntry], &ProposedMatch) -> bool) -> Answer {
-    befriended(hall, call, |mut choice| {
-        choice.waiting_friends = false;
-        let weighed = choice.listed().into_iter().zip(choice.weighed());
-        let kept = weighed.filter(|(m, (passes, _))| *passes && rule(choice.queue.waiting(), m));
-        let best = kept.reduce(|best, next| if next.1.1 < best.1.1 { best } else { next });
-        best.map(|(teams, _)| teams)
-    })
+    befriended(hall, call, |choice| best_where(choice, rule))
+}
+
+/// The last of equal best that pass without waiting friends, and by this rule.
+fn best_where(
+    mut choice: Choice,
+    rule: impl Fn(&[QueueEntry], &ProposedMatch) -> bool,
+) -> Option<ProposedMatch> {
+    choice.waiting_friends = false;
+    let weighed = choice.listed().into_iter().zip(choice.weighed());
+    let kept = weighed.filter(|(m, (passes, _))| *passes && rule(choice.queue.waiting(), m));
+    let best = kept.reduce(|best, next| if next.1.1 < best.1.1 { best } else { next });
+    best.map(|(teams, _)| teams)
 }
 
 /// Where a full round that brings waiting friends is not refused: with what `best` makes of its choice.
@@ -319,12 +313,12 @@ fn befriended(
     call: &Call,
     best: impl FnOnce(Choice) -> Option<ProposedMatch>,
 ) -> Answer {
-    let waiting = hall.waiting.clone();
+    let before = hall.clone();
     let answer = hall.answer(call);
     match (call.full_round(), answer.refusal) {
         (Some((round, full)), 0) if full.rules.waiting_friends => {
-            let choice = Choice::of(Queue::of(&waiting), round.sizes, full);
-            seats(hall, waiting, round, answer, best(choice))
+            let best = best(choice(&before, round, full));
+            seats(hall, before.waiting, round, answer, best)
         }
         _ => answer,
     }
@@ -357,25 +351,27 @@ wrong!(
     })
 );
 
-/// A greedy round that picks by this rule.
+/// A greedy round, or a dispatch, that picks by this rule.
 fn picks_by(hall: &mut Model, call: &Call, rule: Rule) -> Answer {
-    let mut waiting = hall.waiting.clone();
+    let mut before = hall.clone();
     let answer = hall.answer(call);
-    let (Call::Round(round), 0) = (call, answer.refusal) else {
+    let Some((game, sizes)) = played(&before, call, &answer) else {
         return answer;
     };
-    let Search::Greedy(columns) = &round.search else {
+    let Some((round, columns)) = call.greedy() else {
         return answer;
     };
     let search = Greedy {
-        waiting: &waiting,
-        sizes: round.sizes,
+        waiting: &before.entries(game),
+        sizes,
         columns,
     };
     let (count, sheets) = search.laid_on(&round.sheets, rule);
-    let seated = &sheets.players[..count * (round.sizes.a + round.sizes.b)];
-    waiting.retain(|entry| !seated.contains(&entry.player));
-    hall.waiting = waiting;
+    let seated = &sheets.players[..count * (sizes.a + sizes.b)];
+    before
+        .waiting
+        .retain(|booking| !seated.contains(&booking.player));
+    hall.waiting = before.waiting;
     Answer {
         count,
         sheets,
@@ -383,17 +379,27 @@ fn picks_by(hall: &mut Model, call: &Call, rule: Rule) -> Answer {
     }
 }
 
+/// The game of a round that was not refused, and its sizes.
+fn played(before: &Model, call: &Call, answer: &Answer) -> Option<(u8, TeamComposition)> {
+    let (Call::Round(round), 0) = (call, answer.refusal) else {
+        return None;
+    };
+    let game = round.played(answer)?;
+    Some((game, before.sizes(game)))
+}
+
 wrong!(RemovesOneEntryOfTheSeated, hall, call, {
-    let mut before = hall.waiting.clone();
+    let mut before = hall.clone();
     let answer = hall.answer(call);
-    if let (Call::Round(round), 1..) = (call, answer.count) {
-        let seats = answer.count * (round.sizes.a + round.sizes.b);
+    if let Some((_, sizes)) = played(&before, call, &answer) {
+        let seats = answer.count * (sizes.a + sizes.b);
+        let waiting = &mut before.waiting;
         for player in &answer.sheets.players[..seats] {
-            if let Some(place) = before.iter().position(|entry| entry.player == *player) {
-                before.remove(place);
+            if let Some(place) = waiting.iter().position(|b| b.player == *player) {
+                waiting.remove(place);
             }
         }
-        hall.waiting = before;
+        hall.waiting = before.waiting;
     }
     answer
 });
@@ -403,11 +409,15 @@ wrong!(HandsOutNothingLater, hall, call, {
     let answer = after.answer(call);
     let seated = hall.notes.len() > hall.waiting.len() + 5;
     match (call, answer.count) {
-        (Call::Round(round), 1..) if seated => Answer {
-            sheets: round.sheets.clone(),
-            tried: answer.tried,
-            ..Answer::default()
-        },
+        (Call::Round(round), 1..) if seated => {
+            hall.served = after.served;
+            Answer {
+                sheets: round.sheets.clone(),
+                tried: answer.tried,
+                served: answer.served,
+                ..Answer::default()
+            }
+        }
         _ => {
             *hall = after;
             answer
@@ -422,11 +432,6 @@ wrong!(WritesBehindTheMatches, hall, call, {
     }
     answer
 });
-
-/// How many lists and single calls differ from the model's.
-fn found<L: Counter>() -> usize {
-    run::<L, Modelled>(4000).0.differences
-}
 
 /// Full rounds are few among the calls.
 fn found_in_full_rounds<L: Counter>() -> usize {
@@ -457,6 +462,7 @@ fn other_rules_for_friends_are_found_out() {
         ("of team A", found_in_full_rounds::<FriendsOfTeamA>()),
         ("in one team", found_in_full_rounds::<FriendsInOneTeam>()),
         ("one friend", found_in_full_rounds::<OneFriendIsEnough>()),
+        ("of all games", found_in_full_rounds::<FriendsOfAllGames>()),
     ];
     assert!(others.iter().all(|(_, count)| *count > 3), "{others:?}");
 }
@@ -485,18 +491,11 @@ fn other_rules_are_found_out() {
     assert!(others.iter().all(|(_, count)| *count > 3), "{others:?}");
 }
 
-/// How many differences say so, with no model to compare with.
-fn said<L: Counter>(words: &[&str]) -> usize {
-    let (_, differences) = run::<L, L>(4000);
-    let says = |difference: &&String| words.iter().any(|words| difference.contains(words));
-    differences.iter().filter(says).count()
-}
-
 /// In joining order alone, where ties by place are right.
 #[test]
 fn the_rust_finds_out_other_rules_for_picks() {
     fn parted<L: Counter>() -> usize {
-        said::<L>(&["the Rust answers otherwise"])
+        said::<L>(4000, &["the Rust answers otherwise"])
     }
     let others = [
         ("ties by shorter wait", parted::<TiesGoToTheShorterWait>()),
@@ -508,7 +507,7 @@ fn the_rust_finds_out_other_rules_for_picks() {
 
 /// How many lists break demand 3.
 fn broken<L: Counter>() -> usize {
-    said::<L>(&["demand 3", "without resends"])
+    said::<L>(4000, &["demand 3", "without resends"])
 }
 
 #[test]

@@ -4,13 +4,15 @@ use crate::call::{Call, Row};
 use compare::model::hall;
 use compare::rng::Rng;
 use std::cell::RefCell;
-use yilgashe_sys::{self as library, Booking, Hall, Keyed, QueueEntry};
+use yilgashe_sys::{self as library, Booking, Games, Hall, Keyed, TeamComposition};
 
 pub const CASES: usize = 16;
 /// One more fits.
 pub const NOTED: u64 = 1023;
 /// Of the noted bookings so many are accepted, and the rest come late.
 pub const WAITING: u64 = 32;
+/// Of game 0, which everybody books.
+const TABLE: TeamComposition = TeamComposition { a: 2, b: 2 };
 
 pub fn row(seed: u64) -> Row {
     let cases =
@@ -26,45 +28,46 @@ pub fn first_key(rng: &mut Rng) -> u64 {
     rng.below(1 << 20) as u64
 }
 
+pub fn games() -> Games {
+    Games::of([TABLE])
+}
+
 /// The booking of guest `number`, who comes in time if he is among the first `waiting`.
-pub fn entry(number: u64, waiting: u64) -> QueueEntry {
-    QueueEntry {
+pub fn booking(number: u64, waiting: u64) -> Booking {
+    Booking {
         player: number,
         joined: if number < waiting { number } else { u64::MAX },
         rating: 1000.0 + number as f64,
-        ..QueueEntry::default()
+        ..Booking::default()
     }
 }
 
 /// Under the keys from `first` up all bookings are noted, and so many wait.
 pub fn noted_hall(first: u64, waiting: u64) -> Hall {
     let booked = |hall, number| {
-        let booking = Booking::of(&entry(number, waiting));
+        let booking = booking(number, waiting);
         library::hall_book(hall, first + number, booking).hall
     };
-    (0..NOTED).fold(library::hall_empty(), booked)
+    (0..NOTED).fold(library::hall_empty(games()), booked)
 }
 
 struct Booked {
     key: u64,
-    entry: QueueEntry,
+    booking: Booking,
     model: RefCell<hall::Hall>,
     hall: Hall,
 }
 
 impl Booked {
     fn drawn(rng: &mut Rng) -> Self {
-        let mut model = hall::Hall::default();
+        let mut model = hall::Hall::open(games());
         let first = first_key(rng);
         for number in 0..NOTED {
-            model.book(first + number, entry(number, WAITING));
+            model.book(first + number, booking(number, WAITING));
         }
         Booked {
             key: first + NOTED,
-            entry: QueueEntry {
-                player: NOTED,
-                ..QueueEntry::default()
-            },
+            booking: booking(NOTED, NOTED + 1),
             model: RefCell::new(model),
             hall: noted_hall(first, WAITING),
         }
@@ -78,14 +81,14 @@ impl Call for Booked {
     /// The model's booking is undone, so that each call finds the same hall: two lengths that shrink by one.
     fn rust(&self) -> u8 {
         let mut model = self.model.borrow_mut();
-        let answer = model.book(self.key, self.entry);
+        let answer = model.book(self.key, self.booking);
         model.notes.pop();
         model.waiting.pop();
         answer
     }
 
     fn library(&mut self) -> Keyed {
-        library::hall_book(self.hall, self.key, Booking::of(&self.entry))
+        library::hall_book(self.hall, self.key, self.booking)
     }
 
     fn agree(&mut self) -> String {

@@ -4,11 +4,11 @@
 use crate::call::{Call, Row};
 use crate::crowd::sheets;
 use crate::plain;
-use crate::rows::booking::{CASES, NOTED, WAITING, entry, first_key, noted_hall};
+use crate::rows::booking::{self, CASES, NOTED, WAITING, first_key, noted_hall};
 use compare::data::Sheets;
 use compare::rng::Rng;
 use compare::same::Same;
-use yilgashe_sys::{self as library, Booking, Hall, Keyed, Rounded, TeamComposition};
+use yilgashe_sys::{self as library, Booking, Hall, Keyed, Rounded};
 
 /// Under a new key.
 pub fn booking(seed: u64) -> Row {
@@ -17,7 +17,7 @@ pub fn booking(seed: u64) -> Row {
         Booked {
             hall: noted_hall(first, WAITING),
             key: first + NOTED,
-            booking: Booking::of(&entry(NOTED, NOTED + 1)),
+            booking: booking::booking(NOTED, NOTED + 1),
         }
     })
 }
@@ -30,7 +30,7 @@ pub fn booking_again(seed: u64) -> Row {
         Booked {
             hall: noted_hall(first, WAITING),
             key: first + number,
-            booking: Booking::of(&entry(number, WAITING)),
+            booking: booking::booking(number, WAITING),
         }
     })
 }
@@ -55,8 +55,8 @@ pub fn round(seed: u64) -> Row {
     })
 }
 
+/// The table takes four.
 const FEW: u64 = 3;
-const TABLE: TeamComposition = TeamComposition { a: 2, b: 2 };
 const CLOCK: u64 = 1000;
 
 fn named<C: Call>(what: &str, seed: u64, drawn: impl Fn(&mut Rng) -> C) -> Row {
@@ -143,7 +143,7 @@ impl Call for Idle {
     fn library(&mut self) -> Rounded {
         library::hall_greedy_round(
             self.hall,
-            TABLE,
+            0,
             CLOCK,
             &[],
             &[],
@@ -154,7 +154,7 @@ impl Call for Idle {
 
     fn agree(&mut self) -> String {
         let (plain, library) = (self.rust(), self.library());
-        let numbers = |told: &Rounded| (told.refusal, told.count, told.tried);
+        let numbers = |told: &Rounded| (told.refusal, told.count, told.tried, told.served);
         assert_eq!(numbers(&plain), numbers(&library));
         assert!(plain.hall.same(&library.hall), "not the C's hall");
         assert!(self.sheets.same(&sheets()), "a sheet was written to");

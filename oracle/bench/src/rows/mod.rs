@@ -3,6 +3,7 @@
 pub mod beam;
 pub mod booking;
 pub mod by_value;
+pub mod dispatch;
 pub mod greedy;
 pub mod nearest;
 pub mod round;
@@ -36,6 +37,7 @@ pub const ROWS: &[fn(u64) -> Row] = &[
     |seed| by_value::booking_again(seed).target(0.5),
     |seed| by_value::withdrawal(seed).target(0.5),
     |seed| by_value::round(seed).target(0.5),
+    |seed| dispatch::row(seed).target(0.5),
 ];
 
 /// How many wait, the sizes of the teams, and whether the roster's rows ascend.
@@ -122,6 +124,7 @@ mod tests {
             seated::quality(1, Scene::of(64, (5, 5))),
             seated::score(1, Scene::of(64, (5, 5)).unsorted()),
             by_value::round(1),
+            dispatch::row(1),
         ];
         let keyed = vec![
             booking::row(1),

@@ -18,7 +18,7 @@ use matchlab_matchmaking::policy::MatchPolicy;
 use matchlab_matchmaking::queue;
 use matchlab_matchmaking::selection::{GreedySelection, MatchSelectionPolicy};
 use yilgashe_sys::{
-    self as library, Booking, Brought, Chosen, Constraints, Hall, Queue, RegionConstraint,
+    self as library, Booking, Brought, Chosen, Constraints, Games, Hall, Queue, RegionConstraint,
     RegionPair, RoleRequirement, RoleRequirements, RoundRules, Rounded, SoftObjectives,
     TeamComposition, TeamSizeConstraint,
 };
@@ -152,7 +152,7 @@ impl Call for Round {
     }
 }
 
-/// The round in a hall where friends wait in pairs, by their bookings; the friends of the roster are others or the same.
+/// The round of game 0 in a hall where friends wait in pairs, by their bookings; the friends of the roster are others or the same.
 struct Befriended {
     round: Round,
     hall: Hall,
@@ -173,7 +173,7 @@ impl Befriended {
         let waiting = round.queue.waiting().iter();
         let bookings: Vec<Booking> = waiting.map(Booking::of).collect();
         Befriended {
-            hall: Hall::of(&bookings, &[]),
+            hall: Hall::of(Games::of([scene.sizes()]), &bookings, &[]),
             sheets: sheets(),
             round,
         }
@@ -200,7 +200,6 @@ impl Call for Befriended {
 
     fn library(&mut self) -> Rounded {
         let Round {
-            sizes,
             constraints,
             objectives,
             roster,
@@ -212,7 +211,7 @@ impl Call for Befriended {
         };
         library::hall_full_round(
             self.hall,
-            *sizes,
+            0,
             rules,
             *objectives,
             CLOCK,

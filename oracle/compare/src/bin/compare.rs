@@ -1,5 +1,5 @@
 //! compare [--cases N] [--seed S] [--only FAMILY] [--hall-calls N]: N cases for each function, and lists of N calls of the hall;
-//! exits 1 on a difference.
+//! exits 1 on a difference, or if as many calls as are made by default miss what they always reach.
 
 use compare::families::FAMILIES;
 use compare::function::Listed;
@@ -28,16 +28,16 @@ fn main() {
         exit(2)
     });
     let hall_alone = options.only.as_deref() == Some(HALL);
-    let mut differences = 0;
+    let mut failures = 0;
     if !hall_alone {
-        differences += run_families(&options);
+        failures += run_families(&options);
     }
     let default = if hall_alone { HALL_CALLS } else { 0 };
     let calls = options.hall_calls.unwrap_or(default);
     if calls > 0 {
-        differences += run_hall(options.seed, calls);
+        failures += run_hall(options.seed, calls);
     }
-    exit(i32::from(differences > 0));
+    exit(i32::from(failures > 0));
 }
 
 fn run_families(options: &Options) -> usize {
@@ -62,6 +62,7 @@ fn run_families(options: &Options) -> usize {
     differences
 }
 
+/// How many differences there are, and how much was missed.
 fn run_hall(seed: u64, calls: u64) -> usize {
     let mut shown = 0;
     let counts = lists::run::<Library, Modelled>(seed, calls, &mut |difference| {
@@ -71,7 +72,12 @@ fn run_hall(seed: u64, calls: u64) -> usize {
         }
     });
     println!("{}", counts.lines());
-    counts.differences
+    let missing = counts.missing();
+    if calls < HALL_CALLS || missing.is_empty() {
+        return counts.differences;
+    }
+    println!("hall: never reached: {}", missing.join("; "));
+    counts.differences + missing.len()
 }
 
 fn run(options: &Options, family: &str, function: &Listed) -> Tally {

@@ -1,11 +1,18 @@
 //! The calls of the hall, and what they answer.
 
 use super::{Columns, Rows, Sheets};
-use yilgashe_sys::{MatchObjective, QueueEntry, RoundRules, SoftObjectives, TeamComposition};
+use yilgashe_sys::{Booking, Games, MatchObjective, RoundRules, SoftObjectives};
+
+/// The calls of an evening, from an empty hall with these games.
+#[derive(Clone, Debug)]
+pub struct List {
+    pub games: Games,
+    pub calls: Vec<Call>,
+}
 
 #[derive(Clone, Debug)]
 pub enum Call {
-    Book { key: u64, entry: QueueEntry },
+    Book { key: u64, booking: Booking },
     Withdraw { key: u64, player: u64 },
     Round(Box<Round>),
 }
@@ -14,21 +21,25 @@ pub enum Call {
 #[derive(Clone, Debug)]
 pub struct Round {
     pub search: Search,
-    pub sizes: TeamComposition,
     pub clock: u64,
     pub sheets: Sheets,
 }
 
+/// With the game that is named; a dispatch names none.
 #[allow(clippy::large_enum_variant)] // a round stands in a box of its own
 #[derive(Clone, Debug)]
 pub enum Search {
-    Greedy(Columns),
-    Beam {
-        width: usize,
-        objective: MatchObjective,
-        columns: Columns,
-    },
-    Full(FullRound),
+    Greedy(u8, Columns),
+    Beam(u8, BeamRound),
+    Full(u8, FullRound),
+    Dispatch(Columns),
+}
+
+#[derive(Clone, Debug)]
+pub struct BeamRound {
+    pub width: usize,
+    pub objective: MatchObjective,
+    pub columns: Columns,
 }
 
 #[derive(Clone, Debug)]
@@ -44,7 +55,24 @@ pub struct Answer {
     pub refusal: u8,
     pub count: usize,
     pub tried: u64,
+    /// The game that a dispatch served.
+    pub served: Option<u8>,
     pub sheets: Sheets,
+}
+
+impl Round {
+    /// The game that it names.
+    pub fn game(&self) -> Option<u8> {
+        match &self.search {
+            Search::Greedy(game, _) | Search::Beam(game, _) | Search::Full(game, _) => Some(*game),
+            Search::Dispatch(_) => None,
+        }
+    }
+
+    /// The game that it played, by its answer: the one that it names, or the one that was served.
+    pub fn played(&self, answer: &Answer) -> Option<u8> {
+        self.game().or(answer.served)
+    }
 }
 
 impl Answer {
@@ -83,10 +111,35 @@ impl Call {
     pub fn full_round(&self) -> Option<(&Round, &FullRound)> {
         match self {
             Call::Round(round) => match &round.search {
-                Search::Full(full) => Some((round, full)),
+                Search::Full(_, full) => Some((round, full)),
                 _ => None,
             },
             _ => None,
+        }
+    }
+
+    /// What a greedy round or a dispatch brings; none of any other call.
+    pub fn greedy(&self) -> Option<(&Round, &Columns)> {
+        match self {
+            Call::Round(round) => match &round.search {
+                Search::Greedy(_, columns) | Search::Dispatch(columns) => Some((round, columns)),
+                _ => None,
+            },
+            _ => None,
+        }
+    }
+
+    /// What a dispatch brings; none of any other call.
+    pub fn dispatch(&self) -> Option<(&Round, &Columns)> {
+        self.greedy().filter(|(round, _)| round.game().is_none())
+    }
+
+    /// The game that a booking or a round names.
+    pub fn game(&self) -> Option<u8> {
+        match self {
+            Call::Book { booking, .. } => Some(booking.game),
+            Call::Withdraw { .. } => None,
+            Call::Round(round) => round.game(),
         }
     }
 
@@ -96,9 +149,10 @@ impl Call {
             Call::Book { .. } => "book",
             Call::Withdraw { .. } => "withdraw",
             Call::Round(round) => match round.search {
-                Search::Greedy(_) => "greedy_round",
-                Search::Beam { .. } => "beam_round",
-                Search::Full(_) => "full_round",
+                Search::Greedy(..) => "greedy_round",
+                Search::Beam(..) => "beam_round",
+                Search::Full(..) => "full_round",
+                Search::Dispatch(_) => "dispatch",
             },
         }
     }

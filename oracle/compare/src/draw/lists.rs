@@ -1,20 +1,17 @@
-//! Lists of calls from an empty hall, and single calls on halls of any kind.
+//! Lists of calls from an empty hall.
 
-use super::choices::{choice_among, latency};
-use super::searches::{seats_of, settle, some_seats, tie, width};
-use super::{
-    LONG, ODD_IDS, Ratings, Scale, Times, clock, entry, joined, late_time, later, match_objective,
-    player, queue, rating, role, searched_columns, sheets, team_sizes, times,
+use super::rounds::{
+    Which, beam_round, dispatch, full_round, greedy_round, is_listed, is_long, no_game, parts,
+    which,
 };
-use crate::data::{Call, FullRound, Round, Rows, Search};
-use crate::model::hall::{self, NOTE_LIMIT};
-use crate::model::{
-    self, BAD_ROSTER, LISTED_LIMIT, OVER_LIMIT, QUEUE_LIMIT, TEAM_LIMIT, WIDTH_LIMIT, choices,
-    friends_seated, ways,
-};
+use super::searches::team_sizes;
+use super::{ODD_IDS, Ratings, Times, joined, late_time, later, rating, role, times};
+use crate::data::{Call, GAMES, List, Round};
+use crate::model::TEAM_LIMIT;
+use crate::model::hall::{self, no_such_game};
 use crate::rng::Rng;
 use std::array::from_fn;
-use yilgashe_sys::{Booking, Hall, Note, Queue, QueueEntry, RoundRules, TeamComposition};
+use yilgashe_sys::{Booking, Games, Queue, TeamComposition};
 
 /// How a list goes.
 #[derive(Clone, Copy, Debug)]
@@ -25,8 +22,14 @@ enum Mood {
     Friends,
     /// More come than the hall holds.
     Crowd,
+    /// Many games, and dispatches in a row.
+    Turns,
     /// More keys come than the book holds.
     Long,
+    /// A size is over 8, that of a game in use: nobody gets in.
+    Closed,
+    /// A size is over 8, of a game that is not used, if there is one.
+    ClosedElsewhere,
 }
 
 /// What the next call of a list is.
@@ -43,6 +46,10 @@ enum Next {
 struct Evening {
     mood: Mood,
     hall: hall::Hall,
+    /// Those that are used.
+    games: Vec<u8>,
+    /// So many more dispatches come, but for a few other calls between them.
+    dispatches: usize,
     /// The bookings and withdrawals so far.
     keyed: Vec<Call>,
     fresh: u64,
@@ -66,7 +73,7 @@ fn tying_ratings(rng: &mut Rng) -> Ratings {
 }
 
 /// So few that friends wait together, or one for two guests.
-fn parties(rng: &mut Rng, guests: usize) -> Vec<u64> {
+pub(super) fn parties(rng: &mut Rng, guests: usize) -> Vec<u64> {
     let count = rng.pick(&[1, 2, 4, guests.div_ceil(2)]);
     let mut parties: Vec<u64> = (1..=count as u64).collect();
     if rng.one_in(3) {
@@ -76,11 +83,52 @@ fn parties(rng: &mut Rng, guests: usize) -> Vec<u64> {
 }
 
 /// One of these, or none.
-fn party(rng: &mut Rng, parties: &[u64]) -> u64 {
+pub(super) fn party(rng: &mut Rng, parties: &[u64]) -> u64 {
     match rng.one_in(3) {
         true => 0,
         false => rng.pick(parties),
     }
+}
+
+/// Few seats mostly, so that matches come often; never none.
+pub(super) fn seats(rng: &mut Rng) -> TeamComposition {
+    if rng.one_in(12) {
+        let TeamComposition { a, b } = team_sizes(rng);
+        let a = a.clamp(1, TEAM_LIMIT);
+        return TeamComposition {
+            a,
+            b: b.min(TEAM_LIMIT),
+        };
+    }
+    let (a, b) = rng.weighted(&[
+        (6, (1, 1)),
+        (5, (2, 2)),
+        (3, (1, 2)),
+        (3, (2, 1)),
+        (2, (3, 2)),
+        (2, (3, 3)),
+        (1, (1, 0)),
+        (1, (0, 1)),
+        (1, (0, 3)),
+    ]);
+    TeamComposition { a, b }
+}
+
+/// One of the sizes is over 8: 9, mostly.
+pub(super) fn enlarge(rng: &mut Rng, sizes: &mut TeamComposition) {
+    let large = rng.weighted(&[(6, 9), (1, 10), (1, (1 << 32) + 3), (1, usize::MAX)]);
+    match rng.one_in(2) {
+        true => sizes.a = large,
+        false => sizes.b = large,
+    }
+}
+
+/// The numbers of so many games, in any order.
+pub(super) fn some_games(rng: &mut Rng, count: usize) -> Vec<u8> {
+    let mut numbers: Vec<u8> = (0..GAMES as u8).collect();
+    rng.shuffle(&mut numbers);
+    numbers.truncate(count);
+    numbers
 }
 
 /// By its number, so that every sort of list comes early.
@@ -89,28 +137,36 @@ fn mood(number: u64) -> Mood {
         3 => Mood::Long,
         1 | 6 | 11 => Mood::Crowd,
         4 | 8 | 14 => Mood::Friends,
+        2 | 7 | 12 | 15 => Mood::Turns,
+        9 if number % 32 == 9 => Mood::Closed,
+        9 => Mood::ClosedElsewhere,
         _ => Mood::Plain,
     }
 }
 
 /// From an empty hall.
-pub fn list(rng: &mut Rng, number: u64) -> Vec<Call> {
+pub fn list(rng: &mut Rng, number: u64) -> List {
     let mood = mood(number);
     let calls = match mood {
         Mood::Plain => rng.between(50, 300),
         Mood::Friends | Mood::Crowd => rng.between(150, 300),
+        Mood::Turns => rng.between(200, 400),
         Mood::Long => rng.between(1300, 1400),
+        Mood::Closed | Mood::ClosedElsewhere => rng.between(50, 80),
     };
     let mut evening = Evening::open(rng, mood);
-    (0..calls).map(|_| evening.next(rng)).collect()
+    List {
+        games: evening.hall.games,
+        calls: (0..calls).map(|_| evening.next(rng)).collect(),
+    }
 }
 
 impl Evening {
     fn open(rng: &mut Rng, mood: Mood) -> Self {
         let size = match mood {
-            Mood::Plain => rng.pick(&[3, 6, 12, 24, 40]),
+            Mood::Plain | Mood::Closed | Mood::ClosedElsewhere => rng.pick(&[3, 6, 12, 24, 40]),
             Mood::Friends => rng.pick(&[8, 12, 18]),
-            Mood::Crowd => 100,
+            Mood::Crowd | Mood::Turns => 100,
             Mood::Long => rng.pick(&[8, 30]),
         };
         let start = u64::from(rng.one_in(4));
@@ -118,9 +174,12 @@ impl Evening {
         if rng.one_in(3) {
             guests[0] = rng.pick(&ODD_IDS);
         }
+        let (games, sizes) = games(rng, mood);
         Evening {
             mood,
-            hall: hall::Hall::default(),
+            hall: hall::Hall::open(sizes),
+            games,
+            dispatches: 0,
             keyed: Vec::new(),
             fresh: u64::from(rng.one_in(2)),
             parties: parties(rng, guests.len()),
@@ -142,10 +201,15 @@ impl Evening {
     }
 
     fn call(&mut self, rng: &mut Rng) -> Call {
+        if self.dispatches > 0 && !rng.one_in(6) {
+            self.dispatches -= 1;
+            return Call::Round(Box::new(dispatch(rng, &self.queue())));
+        }
         let shares = match self.mood {
-            Mood::Plain => [10, 3, 4, 2, 5],
+            Mood::Plain | Mood::Closed | Mood::ClosedElsewhere => [10, 3, 4, 2, 5],
             Mood::Friends => [16, 2, 2, 1, 8],
             Mood::Crowd => [60, 2, 4, 2, 3],
+            Mood::Turns => [60, 1, 3, 1, 2],
             Mood::Long => [20, 12, 2, 1, 1],
         };
         let kinds = [
@@ -163,7 +227,7 @@ impl Evening {
                 key: self.key(rng),
                 player: self.leaving(rng),
             },
-            Next::Round => self.round(rng),
+            Next::Round => Call::Round(Box::new(self.round(rng))),
             _ => {
                 let player = self.coming(rng);
                 self.book(rng, player)
@@ -172,20 +236,82 @@ impl Evening {
     }
 
     /// A crowd stays one, and friends go on waiting: greedy and beam rounds would seat them.
-    fn round(&self, rng: &mut Rng) -> Call {
+    fn round(&mut self, rng: &mut Rng) -> Round {
         let shares = match self.mood {
-            Mood::Friends => [1, 0, 9],
-            Mood::Crowd => [2, 1, 6],
-            Mood::Plain | Mood::Long => [2, 1, 1],
+            Mood::Friends => [1, 0, 9, 1],
+            Mood::Crowd => [2, 1, 6, 1],
+            Mood::Turns => [1, 1, 1, 6],
+            _ => [2, 2, 1, 1],
         };
-        let queue = Queue::of(&self.hall.waiting);
-        Call::Round(Box::new(round(rng, &queue, shares)))
+        match which(rng, shares) {
+            Which::Greedy => {
+                let game = self.game(rng);
+                greedy_round(rng, game, &self.queue_for(game))
+            }
+            Which::Beam => {
+                let game = self.game(rng);
+                beam_round(rng, game, &self.queue_for(game))
+            }
+            Which::Full => self.full_round(rng),
+            Which::Dispatch => {
+                if let Mood::Turns = self.mood {
+                    self.dispatches = rng.pick(&[0, 9, 16]);
+                }
+                dispatch(rng, &self.queue())
+            }
+        }
+    }
+
+    /// Of a game with few choices; a greedy one, where none is drawn in a few times.
+    fn full_round(&self, rng: &mut Rng) -> Round {
+        let waiting_friends = rng.one_in(2);
+        let parting = waiting_friends && !rng.one_in(4);
+        let drawn: Vec<u8> = (0..8).map(|_| self.game(rng)).collect();
+        let few = drawn.iter().copied().filter(|game| !self.is_long(*game));
+        let wanted = few.clone().find(|game| !parting || self.parts(*game));
+        match wanted.or(few.clone().next()) {
+            Some(game) => {
+                let (own, sizes) = (self.queue_for(game), self.hall.sizes(game));
+                full_round(rng, game, &own, sizes, waiting_friends)
+            }
+            None => greedy_round(rng, drawn[0], &self.queue_for(drawn[0])),
+        }
+    }
+
+    fn is_long(&self, game: u8) -> bool {
+        is_long(self.hall.entries(game).len(), &self.hall.sizes(game))
+    }
+
+    fn parts(&self, game: u8) -> bool {
+        let (own, sizes) = (self.hall.entries(game), self.hall.sizes(game));
+        is_listed(own.len(), &sizes) && parts(&own, &sizes)
+    }
+
+    /// Those who wait, for whatever game.
+    fn queue(&self) -> Queue {
+        let entries: Vec<_> = self.hall.waiting.iter().map(Booking::entry).collect();
+        Queue::of(&entries)
+    }
+
+    fn queue_for(&self, game: u8) -> Queue {
+        Queue::of(&self.hall.entries(game))
+    }
+
+    /// One that somebody waits for, mostly; else one that is used, any, or none.
+    fn game(&self, rng: &mut Rng) -> u8 {
+        match rng.below(24) {
+            0 => no_game(rng),
+            1 => rng.below(GAMES) as u8,
+            2 | 3 => rng.pick(&self.games),
+            _ if self.hall.waiting.is_empty() => rng.pick(&self.games),
+            _ => rng.pick(&self.hall.waiting).game,
+        }
     }
 
     fn book(&mut self, rng: &mut Rng, player: u64) -> Call {
         Call::Book {
             key: self.key(rng),
-            entry: self.entry(rng, player),
+            booking: self.booking(rng, player),
         }
     }
 
@@ -198,16 +324,24 @@ impl Evening {
         self.fresh - 1
     }
 
-    fn entry(&self, rng: &mut Rng, player: u64) -> QueueEntry {
-        QueueEntry {
+    /// For a game that is used, mostly; else for any, or for none.
+    fn booking(&self, rng: &mut Rng, player: u64) -> Booking {
+        let game = match rng.below(32) {
+            0 => no_game(rng),
+            1 | 2 => rng.below(GAMES) as u8,
+            _ => rng.pick(&self.games),
+        };
+        let late_share = if no_such_game(game) { 4 } else { 20 };
+        Booking {
             player,
-            joined: match rng.one_in(20) {
+            joined: match rng.one_in(late_share) {
                 true => late_time(rng),
                 false => self.joined(rng),
             },
             rating: rating(rng, self.ratings),
             party: party(rng, &self.parties),
             role: role(rng),
+            game,
         }
     }
 
@@ -220,7 +354,7 @@ impl Evening {
 
     /// Somebody who does not wait, mostly.
     fn coming(&self, rng: &mut Rng) -> u64 {
-        let waits = |guest: &u64| self.hall.waiting.iter().any(|e| e.player == *guest);
+        let waits = |guest: &u64| self.hall.waiting.iter().any(|b| b.player == *guest);
         let away: Vec<u64> = self.guests.iter().copied().filter(|g| !waits(g)).collect();
         match away.is_empty() || rng.one_in(8) {
             true => rng.pick(&self.guests),
@@ -240,9 +374,9 @@ impl Evening {
     fn resend(&self, rng: &mut Rng) -> Call {
         let earlier = self.keyed[rng.below(self.keyed.len())].clone();
         match earlier {
-            Call::Book { key, entry } if rng.one_in(2) => Call::Book {
+            Call::Book { key, booking } if rng.one_in(2) => Call::Book {
                 key,
-                entry: self.entry(rng, entry.player),
+                booking: self.booking(rng, booking.player),
             },
             other => other,
         }
@@ -255,15 +389,15 @@ impl Evening {
         match self.keyed[rng.below(self.keyed.len())] {
             Call::Withdraw { key, player } if same_guest => Call::Book {
                 key,
-                entry: self.entry(rng, player),
+                booking: self.booking(rng, player),
             },
-            Call::Book { key, entry } if same_guest => Call::Withdraw {
+            Call::Book { key, booking } if same_guest => Call::Withdraw {
                 key,
-                player: entry.player,
+                player: booking.player,
             },
             Call::Book { key, .. } => Call::Book {
                 key,
-                entry: self.entry(rng, other),
+                booking: self.booking(rng, other),
             },
             Call::Withdraw { key, .. } => Call::Withdraw { key, player: other },
             Call::Round(_) => unreachable!("a round has no key"),
@@ -271,248 +405,33 @@ impl Evening {
     }
 }
 
-/// A round among those who wait in `queue`, by the shares of greedy, beam and full ones.
-fn round(rng: &mut Rng, queue: &Queue, [greedy, beams, fulls]: [usize; 3]) -> Round {
-    let mut sizes = match rng.one_in(8) {
-        true => team_sizes(rng),
-        false => seats(rng),
+/// One game or some, with those between them unused; and their sizes.
+fn games(rng: &mut Rng, mood: Mood) -> (Vec<u8>, Games) {
+    let count = match mood {
+        Mood::Plain | Mood::Closed | Mood::ClosedElsewhere => rng.pick(&[1, 2, 3, GAMES]),
+        Mood::Friends => rng.pick(&[1, 2, 3]),
+        Mood::Crowd => rng.pick(&[1, 1, 2, 3]),
+        Mood::Turns => rng.pick(&[3, 5, GAMES, GAMES]),
+        Mood::Long => rng.pick(&[1, 2, 4]),
     };
-    let search = match rng.weighted(&[(greedy, 0), (beams, 1), (fulls, 2)]) {
-        0 => Search::Greedy(searched_columns(rng, Scale::Full, queue, false)),
-        1 => beam(rng, queue, &mut sizes),
-        _ => full(rng, queue, &mut sizes),
+    let mut used = some_games(rng, GAMES);
+    let large = match mood {
+        Mood::Closed => used.first(),
+        Mood::ClosedElsewhere => used.last(),
+        _ => None,
     };
-    Round {
-        search,
-        sizes,
-        clock: clock(rng, queue),
-        sheets: sheets(rng, Scale::Full),
+    let mut games = Games::default();
+    if let Some(game) = large {
+        enlarge(rng, &mut games.sizes[usize::from(*game)]);
     }
-}
-
-/// Few seats, so that matches come often.
-fn seats(rng: &mut Rng) -> TeamComposition {
-    let (a, b) = rng.weighted(&[
-        (6, (1, 1)),
-        (5, (2, 2)),
-        (3, (1, 2)),
-        (3, (2, 1)),
-        (2, (3, 2)),
-        (2, (3, 3)),
-        (1, (1, 0)),
-        (1, (0, 1)),
-        (1, (0, 0)),
-    ]);
-    TeamComposition { a, b }
-}
-
-/// The more wait, the narrower; of many, few are seated.
-fn beam(rng: &mut Rng, queue: &Queue, sizes: &mut TeamComposition) -> Search {
-    let waiting = queue.waiting().len().max(1);
-    let within = sizes.a <= TEAM_LIMIT && sizes.b <= TEAM_LIMIT;
-    if waiting > 24 && within {
-        (sizes.a, sizes.b) = (sizes.a.min(3), sizes.b.min(3));
-    }
-    let mut columns = searched_columns(rng, Scale::Full, queue, true);
-    if !rng.one_in(4) {
-        settle(&mut columns);
-    }
-    Search::Beam {
-        width: width(rng, (96 / waiting).clamp(1, WIDTH_LIMIT)),
-        objective: match_objective(rng),
-        columns,
-    }
-}
-
-/// So many choices at most, save where no listing is made.
-const CHOICES: usize = 400;
-
-fn full(rng: &mut Rng, queue: &Queue, sizes: &mut TeamComposition) -> Search {
-    let within = sizes.a <= TEAM_LIMIT && sizes.b <= TEAM_LIMIT;
-    let listed = queue.len <= LISTED_LIMIT && within;
-    if listed && ways(queue.len, sizes.a + sizes.b) > CHOICES {
-        *sizes = some_seats(rng, queue.len, CHOICES);
-    }
-    let waiting_friends = rng.one_in(2);
-    if listed && waiting_friends && !rng.one_in(4) {
-        part(rng, queue.waiting(), sizes);
-    }
-    let mut choice = choice_among(rng, Scale::Full, *queue, *sizes);
-    let refused = [OVER_LIMIT, BAD_ROSTER].contains(&model::best_choice(&choice));
-    if refused && !rng.one_in(4) {
-        choice = choice_among(rng, Scale::Full, *queue, *sizes);
-    }
-    if rng.one_in(2) {
-        choice.constraints.brought = latency(false);
-    }
-    if rng.one_in(3) {
-        agree(&mut choice.rows, queue.waiting());
-    }
-    Search::Full(FullRound {
-        rules: RoundRules {
-            constraints: choice.constraints,
-            waiting_friends,
-        },
-        objectives: choice.objectives,
-        rows: choice.rows,
-    })
-}
-
-/// Seats such that some choices part friends and others do not, if such are drawn in a few times.
-fn part(rng: &mut Rng, waiting: &[QueueEntry], sizes: &mut TeamComposition) {
-    let most = waiting.len().clamp(1, 2 * TEAM_LIMIT);
-    for _ in 0..8 {
-        let kept = kept(waiting, sizes);
-        if kept.contains(&true) && kept.contains(&false) {
-            return;
+    used.truncate(count);
+    for &game in &used {
+        let sizes = &mut games.sizes[usize::from(game)];
+        if *sizes == TeamComposition::default() {
+            *sizes = seats(rng);
         }
-        *sizes = seats_of(rng, 1..=most, waiting.len(), CHOICES);
     }
-}
-
-/// Of each choice: are friends who wait kept together?
-fn kept(waiting: &[QueueEntry], sizes: &TeamComposition) -> Vec<bool> {
-    let each = choices(waiting.len(), sizes.a + sizes.b).into_iter();
-    each.map(|places| {
-        let seated: Vec<u64> = places.iter().map(|&at| waiting[at].player).collect();
-        friends_seated(waiting, &seated)
-    })
-    .collect()
-}
-
-/// The roster has the parties that guests wait with: a choice may then meet both kinds of parties.
-fn agree(rows: &mut Rows, waiting: &[QueueEntry]) {
-    for (party, id) in rows.parties.iter_mut().flatten().zip(&rows.ids) {
-        let entry = waiting.iter().find(|entry| entry.player == *id);
-        *party = entry.map_or(*party, |entry| entry.party);
-    }
-}
-
-/// A hall and a call. No list need lead to the hall: guests may wait twice or have joined late, it may be over its limits, and what is
-/// noted beside the call's key may be none of any call.
-pub fn single(rng: &mut Rng) -> (Hall, Call) {
-    let mut waiting = queue(rng, Scale::Full);
-    if waiting.len <= QUEUE_LIMIT && rng.one_in(2) {
-        waiting.len = waiting.len.min(rng.below(13));
-    }
-    let len = waiting.waiting().len();
-    tie(rng, &mut waiting.entries[..len]);
-    if len > 1 && !rng.one_in(3) {
-        befriend(rng, &mut waiting.entries[..len]);
-    }
-    let mut hall = noting(rng, &waiting);
-    let call = match rng.below(5) {
-        0 => Call::Book {
-            key: key(rng, &hall),
-            entry: entry(rng, &waiting),
-        },
-        1 => Call::Withdraw {
-            key: key(rng, &hall),
-            player: player(rng, &waiting),
-        },
-        _ => Call::Round(Box::new(round(rng, &waiting, [2, 1, 2]))),
-    };
-    let call = if rng.one_in(3) {
-        again(rng, &hall, call)
-    } else {
-        call
-    };
-    if rng.one_in(3) {
-        misnote(rng, &mut hall, &call);
-    }
-    (hall, call)
-}
-
-/// Parties as lists have them. In half of the halls everyone waits once, but for one guest: with two parties, if both are drawn.
-fn befriend(rng: &mut Rng, waiting: &mut [QueueEntry]) {
-    let parties = parties(rng, waiting.len());
-    for entry in &mut *waiting {
-        entry.party = party(rng, &parties);
-    }
-    if rng.one_in(2) {
-        for (player, entry) in (1..).zip(&mut *waiting) {
-            entry.player = player;
-        }
-        let (one, other) = (rng.below(waiting.len()), rng.below(waiting.len()));
-        waiting[other].player = waiting[one].player;
-    }
-}
-
-/// The queue's guests wait. All 1,024 places for keys are filled, each with its own key and an answer that its kind can get.
-fn noting(rng: &mut Rng, queue: &Queue) -> Hall {
-    let noted = match rng.below(12) {
-        0 => rng.pick(&[NOTE_LIMIT + 1, NOTE_LIMIT + 2, LONG[3], LONG[4], LONG[5]]),
-        1 | 2 => NOTE_LIMIT - rng.below(2),
-        3 => rng.below(NOTE_LIMIT),
-        _ => rng.below(8),
-    };
-    let mut keys: Vec<u64> = (0..NOTE_LIMIT as u64).collect();
-    rng.shuffle(&mut keys);
-    let note = |_| {
-        let kind = rng.below(2) as u8;
-        let answer = match kind {
-            0 => rng.pick(&[0, 4, 9, 10]),
-            _ => rng.pick(&[0, 11]),
-        };
-        Note {
-            player: player(rng, queue),
-            kind,
-            answer,
-        }
-    };
-    Hall {
-        bookings: queue.entries.map(|entry| Booking::of(&entry)),
-        waiting: queue.len,
-        notes: from_fn(note),
-        keys: from_fn(|place| keys[place]),
-        noted,
-    }
-}
-
-/// Noted or not, or noted only past the noted ones, where nobody may look.
-fn key(rng: &mut Rng, hall: &Hall) -> u64 {
-    match rng.below(4) {
-        0 => rng.pick(&ODD_IDS),
-        1 if hall.noted > 0 => hall.keys[noted_place(rng, hall)],
-        _ => rng.pick(&hall.keys),
-    }
-}
-
-fn noted_place(rng: &mut Rng, hall: &Hall) -> usize {
-    rng.below(hall.answered().len())
-}
-
-/// The call with a noted key and its guest, where there is one: its resend if the kinds agree, else a clash.
-fn again(rng: &mut Rng, hall: &Hall, other: Call) -> Call {
-    if hall.noted == 0 {
-        return other;
-    }
-    let place = noted_place(rng, hall);
-    let (key, Note { player, kind, .. }) = (hall.keys[place], hall.notes[place]);
-    match (kind, other) {
-        (0, Call::Book { entry, .. }) => Call::Book {
-            key,
-            entry: QueueEntry { player, ..entry },
-        },
-        (_, Call::Withdraw { .. }) => Call::Withdraw { key, player },
-        (_, other) => other,
-    }
-}
-
-/// Where the call's key is noted, its note gets any kind or any answer: no call need make such a note.
-fn misnote(rng: &mut Rng, hall: &mut Hall, call: &Call) {
-    let Some(place) = call.key().and_then(|key| place(hall, key)) else {
-        return;
-    };
-    let note = &mut hall.notes[place];
-    match rng.one_in(2) {
-        true => note.kind = rng.pick(&[0, 1, 2, 3, 255]),
-        false => note.answer = rng.pick(&[0, 1, 4, 7, 8, 9, 10, 11, 12, 13, 255]),
-    }
-}
-
-fn place(hall: &Hall, key: u64) -> Option<usize> {
-    hall.answered().position(|(noted, _)| noted == key)
+    (used, games)
 }
 
 #[cfg(test)]
@@ -521,7 +440,11 @@ mod tests {
 
     #[test]
     fn lists_by_their_number() {
-        let len = |number| list(&mut Rng::for_case(1, "lists", number), number).len();
+        let len = |number| {
+            list(&mut Rng::for_case(1, "lists", number), number)
+                .calls
+                .len()
+        };
         for number in 0..32 {
             let calls = len(number);
             let long = number % 16 == 3;
@@ -533,11 +456,11 @@ mod tests {
     #[test]
     fn lists_in_joining_order_and_others() {
         let in_order = |number: &u64| {
-            let mut hall = hall::Hall::default();
-            let calls = list(&mut Rng::for_case(1, "hall", *number), *number);
-            calls.iter().all(|call| {
+            let list = list(&mut Rng::for_case(1, "hall", *number), *number);
+            let mut hall = hall::Hall::open(list.games);
+            list.calls.iter().all(|call| {
                 hall.answer(call);
-                model::never_falls(&hall.waiting)
+                hall.waiting.is_sorted_by_key(|booking| booking.joined)
             })
         };
         let kept = (0..64).filter(in_order).count();
@@ -548,7 +471,7 @@ mod tests {
     fn half_of_the_full_rounds_bring_waiting_friends() {
         let lists = (0..32).flat_map(|number| {
             let mut rng = Rng::for_case(1, "hall", number);
-            list(&mut rng, number)
+            list(&mut rng, number).calls
         });
         let full = lists.filter_map(|call| Some(call.full_round()?.1.rules));
         let brought: Vec<bool> = full.map(|rules| rules.waiting_friends).collect();
@@ -556,37 +479,18 @@ mod tests {
         assert!((40..60).contains(&share), "{share}% of {}", brought.len());
     }
 
+    /// One game alone, some, or all; a size over 8 in one list of sixteen.
     #[test]
-    fn single_halls_of_every_sort() {
-        let mut rng = Rng::new(1);
-        let drawn: Vec<(Hall, Call)> = (0..1000).map(|_| single(&mut rng)).collect();
-        let halls: Vec<Hall> = drawn.iter().map(|(hall, _)| *hall).collect();
-        let seen = |wanted: fn(&Hall) -> bool| halls.iter().filter(|hall| wanted(hall)).count();
-        assert!(seen(|hall| hall.waiting > QUEUE_LIMIT) > 20);
-        assert!(seen(|hall| hall.noted > NOTE_LIMIT) > 20);
-        assert!(seen(|hall| hall.noted == NOTE_LIMIT) > 20);
-        assert!(seen(|hall| model::joined_late(&hall.queue())) > 20);
-        let doubled = |hall: &Hall| {
-            let ids: Vec<u64> = hall.booked().iter().map(|b| b.player).collect();
-            model::doubled(&ids)
-        };
-        assert!(seen(doubled) > 200);
-        let twofold = |hall: &Hall| model::of_two_parties(hall.queue().waiting());
-        assert!(seen(twofold) > 100);
-        let falls = |hall: &Hall| !model::never_falls(hall.queue().waiting());
-        assert!((200..700).contains(&seen(falls)));
-        let noted = |wanted: fn(&Note) -> bool| {
-            let notes = drawn.iter().filter_map(|(hall, call)| noted(hall, call));
-            notes.filter(wanted).count()
-        };
-        assert!(noted(|note| note.kind > 1) > 10);
-        assert!(noted(|note| note.kind == 0 && ![0, 4, 9, 10].contains(&note.answer)) > 5);
-        assert!(noted(|note| note.kind == 1 && ![0, 11].contains(&note.answer)) > 5);
-    }
-
-    /// What is noted beside the call's key.
-    fn noted(hall: &Hall, call: &Call) -> Option<Note> {
-        let place = call.key().and_then(|key| place(hall, key))?;
-        Some(hall.notes[place])
+    fn lists_of_few_games_and_of_many() {
+        let games =
+            (0..320).map(|number| list(&mut Rng::for_case(1, "hall", number), number).games);
+        let games: Vec<Games> = games.collect();
+        let used = |games: &Games| games.sizes.iter().filter(|s| s.a.max(s.b) > 0).count();
+        for count in [1, 2, 3, GAMES] {
+            let such = games.iter().filter(|games| used(games) == count);
+            assert!(such.count() > 20, "{count}");
+        }
+        let large = |games: &&Games| games.sizes.iter().any(|s| s.a.max(s.b) > TEAM_LIMIT);
+        assert_eq!(games.iter().filter(large).count(), 20);
     }
 }

@@ -1,13 +1,13 @@
 //! Who serves calls: the library, or the model.
 
-use crate::data::{Answer, Call, FullRound, Round, Search};
+use crate::data::{Answer, BeamRound, Call, FullRound, Round, Search, game_in, games_of};
 use crate::model::OVER_LIMIT;
-use crate::model::hall::{self, Kind, Note, over_limit};
-use yilgashe_sys::{self as library, BeamSearch, Booking, Hall, Keyed, Rounded};
+use crate::model::hall::{self, Kind, NO_SUCH_GAME, Note, no_such_game, over_limit};
+use yilgashe_sys::{self as library, BeamSearch, Games, Hall, Keyed, NONE_SERVED, Rounded};
 
 pub trait Counter {
-    /// Nobody waits, and no key is noted.
-    fn open() -> Self;
+    /// Nobody waits, no key is noted, and no game was served.
+    fn open(games: Games) -> Self;
     /// With this hall, of any kind.
     fn with(hall: &Hall) -> Self;
     fn serve(&mut self, call: &Call) -> Answer;
@@ -19,8 +19,8 @@ pub trait Counter {
 pub struct Library(Box<Hall>);
 
 impl Counter for Library {
-    fn open() -> Self {
-        Library(Box::new(library::hall_empty()))
+    fn open(games: Games) -> Self {
+        Library(Box::new(library::hall_empty(games)))
     }
 
     fn with(hall: &Hall) -> Self {
@@ -29,10 +29,7 @@ impl Counter for Library {
 
     fn serve(&mut self, call: &Call) -> Answer {
         match call {
-            Call::Book { key, entry } => {
-                let booking = Booking::of(entry);
-                self.keyed(library::hall_book(*self.0, *key, booking))
-            }
+            Call::Book { key, booking } => self.keyed(library::hall_book(*self.0, *key, *booking)),
             Call::Withdraw { key, player } => {
                 self.keyed(library::hall_withdraw(*self.0, *key, *player))
             }
@@ -59,69 +56,94 @@ impl Library {
             refusal: given.refusal,
             count: given.count,
             tried: given.tried,
+            served: game_in(given.served),
             sheets,
         }
     }
 }
 
 fn rounded(hall: Hall, round: &Round, players: &mut [u64], qualities: &mut [f64]) -> Rounded {
-    let (sizes, clock) = (round.sizes, round.clock);
+    let clock = round.clock;
     match &round.search {
-        Search::Greedy(columns) => library::hall_greedy_round(
+        Search::Greedy(game, columns) => library::hall_greedy_round(
             hall,
-            sizes,
+            *game,
             clock,
             &columns.ids,
             &columns.ratings,
             players,
             qualities,
         ),
-        Search::Beam {
-            width,
-            objective,
-            columns,
-        } => library::hall_beam_round(
+        Search::Beam(game, beam) => beamed(hall, *game, beam, clock, players, qualities),
+        Search::Full(game, full) => chosen(hall, *game, full, clock, players, qualities),
+        Search::Dispatch(columns) => library::hall_dispatch(
             hall,
-            BeamSearch { width: *width },
-            sizes,
-            *objective,
             clock,
             &columns.ids,
             &columns.ratings,
-            columns.deviations.as_deref().unwrap_or_default(),
-            players,
-            qualities,
-        ),
-        Search::Full(FullRound {
-            rules,
-            objectives,
-            rows,
-        }) => library::hall_full_round(
-            hall,
-            sizes,
-            *rules,
-            *objectives,
-            clock,
-            &rows.ids,
-            rows.ratings(),
-            rows.parties(),
-            rows.roles(),
-            rows.regions(),
             players,
             qualities,
         ),
     }
 }
 
-/// The model's lists, or a hall over its limits, which no lists can hold.
+fn beamed(
+    hall: Hall,
+    game: u8,
+    beam: &BeamRound,
+    clock: u64,
+    players: &mut [u64],
+    qualities: &mut [f64],
+) -> Rounded {
+    let columns = &beam.columns;
+    library::hall_beam_round(
+        hall,
+        BeamSearch { width: beam.width },
+        game,
+        beam.objective,
+        clock,
+        &columns.ids,
+        &columns.ratings,
+        columns.deviations.as_deref().unwrap_or_default(),
+        players,
+        qualities,
+    )
+}
+
+fn chosen(
+    hall: Hall,
+    game: u8,
+    full: &FullRound,
+    clock: u64,
+    players: &mut [u64],
+    qualities: &mut [f64],
+) -> Rounded {
+    let rows = &full.rows;
+    library::hall_full_round(
+        hall,
+        game,
+        full.rules,
+        full.objectives,
+        clock,
+        &rows.ids,
+        rows.ratings(),
+        rows.parties(),
+        rows.roles(),
+        rows.regions(),
+        players,
+        qualities,
+    )
+}
+
+/// The model's lists, or a hall that states more than lists hold.
 pub enum Modelled {
     Within(hall::Hall),
     Over(Box<Hall>),
 }
 
 impl Counter for Modelled {
-    fn open() -> Self {
-        Modelled::Within(hall::Hall::default())
+    fn open(games: Games) -> Self {
+        Modelled::Within(hall::Hall::open(games))
     }
 
     fn with(hall: &Hall) -> Self {
@@ -129,25 +151,32 @@ impl Counter for Modelled {
             return Modelled::Over(Box::new(*hall));
         }
         Modelled::Within(hall::Hall {
-            waiting: hall.booked().iter().map(Booking::entry).collect(),
+            waiting: hall.booked().to_vec(),
             notes: hall.answered().map(note).collect(),
+            games: games_of(hall),
+            served: game_in(hall.served),
         })
     }
 
-    /// Over its limits a hall gives 1 to every call, and nothing changes.
+    /// Over its limits a hall gives 1 to every call, but 13 to a round of no game, and nothing changes.
     fn serve(&mut self, call: &Call) -> Answer {
-        match self {
-            Modelled::Within(hall) => hall.answer(call),
-            Modelled::Over(_) => Answer::refused(call, OVER_LIMIT),
+        match (self, call) {
+            (Modelled::Within(hall), _) => hall.answer(call),
+            (Modelled::Over(_), Call::Round(round)) if round.game().is_some_and(no_such_game) => {
+                Answer::refused(call, NO_SUCH_GAME)
+            }
+            (Modelled::Over(_), _) => Answer::refused(call, OVER_LIMIT),
         }
     }
 
     fn hall(&self) -> Hall {
         match self {
             Modelled::Within(hall) => {
-                let bookings: Vec<Booking> = hall.waiting.iter().map(Booking::of).collect();
                 let answered: Vec<(u64, library::Note)> = hall.notes.iter().map(noted).collect();
-                Hall::of(&bookings, &answered)
+                Hall {
+                    served: hall.served.unwrap_or(NONE_SERVED),
+                    ..Hall::of(hall.games, &hall.waiting, &answered)
+                }
             }
             Modelled::Over(hall) => **hall,
         }

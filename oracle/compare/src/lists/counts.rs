@@ -1,23 +1,27 @@
 //! Counts of calls and answers, and their lines in the report.
 
 use super::beside::Beside;
+use super::corners::{Corners, Seen};
+use super::fair::Windows;
 use super::friends::Friends;
 use crate::data::{Answer, Call};
 use std::array::from_fn;
+use yilgashe_sys::Hall;
 
-/// Refusals are numbered up to 12.
-const NUMBERS: usize = 13;
+/// Refusals are numbered up to 13.
+const NUMBERS: usize = 14;
 
-/// The kinds of call, then calls on halls that no list need lead to.
-const ROWS: [&str; 6] = [
-    "book",
-    "withdraw",
-    "greedy_round",
-    "beam_round",
-    "full_round",
-    "single calls",
+/// The kinds of call, each with the refusals that lists have to reach; then calls on halls that no list need lead to.
+const ROWS: [(&str, &[usize]); 7] = [
+    ("book", &[1, 7, 8, 13, 4, 9, 10]),
+    ("withdraw", &[1, 7, 8, 11]),
+    ("greedy_round", &[13, 1, 2, 3, 4]),
+    ("beam_round", &[13, 1, 2, 3, 4, 5]),
+    ("full_round", &[13, 1, 2, 3, 4, 6, 5]),
+    ("dispatch", &[1, 2, 3, 4]),
+    (SINGLE, &[1, 2, 3, 4, 5, 6, 7, 8, 9, 10, 11, 13]),
 ];
-const SINGLE: &str = ROWS[5];
+const SINGLE: &str = "single calls";
 
 /// Of one kind of call: how often it was answered with 0, with refusal 1, and so on.
 #[derive(Clone, Copy, Default)]
@@ -86,21 +90,36 @@ pub struct Counts {
     /// Full rounds of lists, and single ones.
     pub befriended: Befriended,
     pub befriended_single: Befriended,
+    /// Dispatches of lists.
+    pub windows: Windows,
+    corners: Corners,
+    corners_single: Corners,
     rows: [Row; ROWS.len()],
 }
 
 impl Counts {
-    /// A call of a list.
-    pub fn count(&mut self, call: &Call, answer: &Answer) {
+    /// A call of a list, on this hall.
+    pub fn count(&mut self, call: &Call, answer: &Answer, before: &Hall) {
         self.enter(call.name(), answer);
+        self.corners.count(&Seen {
+            call,
+            answer,
+            before,
+        });
     }
 
-    pub fn count_single(&mut self, answer: &Answer) {
+    pub fn count_single(&mut self, call: &Call, answer: &Answer, before: &Hall) {
         self.enter(SINGLE, answer);
+        self.corners_single.count(&Seen {
+            call,
+            answer,
+            before,
+        });
     }
 
     fn enter(&mut self, name: &str, answer: &Answer) {
-        for (row, _) in self.rows.iter_mut().zip(ROWS).filter(|(_, of)| *of == name) {
+        let rows = self.rows.iter_mut().zip(ROWS);
+        for (row, _) in rows.filter(|(_, (of, _))| *of == name) {
             row.answers[usize::from(answer.refusal).min(NUMBERS - 1)] += 1;
             row.matches += answer.count;
         }
@@ -116,6 +135,21 @@ impl Counts {
         self.in_lists().matches
     }
 
+    /// The refusals and the corners that were never reached, though enough calls always do.
+    pub fn missing(&self) -> Vec<String> {
+        let rows = ROWS.iter().zip(&self.rows);
+        let refusals = rows.flat_map(|((name, due), row)| {
+            let missed = due.iter().filter(|number| row.answers[**number] == 0);
+            missed.map(move |number| format!("{number} in {name}"))
+        });
+        let mut missing: Vec<String> = refusals.collect();
+        missing.extend(Corners::missing(&self.corners, &self.corners_single));
+        if self.windows.kept == 0 || self.windows.tight == 0 {
+            missing.push("a game that has enough for eight dispatches".into());
+        }
+        missing
+    }
+
     fn in_lists(&self) -> Row {
         let rows = &self.rows[..ROWS.len() - 1];
         Row {
@@ -124,13 +158,15 @@ impl Counts {
         }
     }
 
-    /// A line for each row, one for all calls of lists, what greedy rounds were held to, and full rounds with waiting friends.
+    /// A line for each row, one for all calls of lists, what greedy rounds were held to, full rounds with waiting friends, the corners of
+    /// games, and the turns of dispatches.
     pub fn lines(&self) -> String {
         let heading = format!(
             "{:24} {:>9} {:>11} {:>9}  refused",
             "hall", "calls", "not refused", "matches"
         );
-        let rows = ROWS.into_iter().zip(self.rows);
+        let names = ROWS.into_iter().map(|(name, _)| name);
+        let rows = names.zip(self.rows);
         let all = ("all of lists", self.in_lists());
         let lines: Vec<String> = rows.chain([all]).map(line).collect();
         let lists = format!(
@@ -142,10 +178,19 @@ impl Counts {
             self.differences
         );
         format!(
-            "{heading}\n{}\n{lists}\n{}\n{}",
+            "{heading}\n{}\n{lists}\n{}\n{}\n{}\n{}",
             lines.join("\n"),
             self.held_lines(),
-            self.befriended_lines()
+            self.befriended_lines(),
+            Corners::lines(&self.corners, &self.corners_single).join("\n"),
+            self.windows_line()
+        )
+    }
+
+    fn windows_line(&self) -> String {
+        let Windows { all, kept, tight } = self.windows;
+        format!(
+            "hall: {all} times eight dispatches in a row, in {kept} a game had enough throughout and was served, in {tight} by the eighth alone"
         )
     }
 

@@ -1,10 +1,10 @@
 //! Demand 3's sentences, held against the calls of a list and the library's answers to them.
 
-use crate::data::{Answer, Call, Round, Search};
+use crate::data::{Answer, Call, Round, Search, entries_for, game_in, games_of, sizes_for};
 use crate::model::hall::{Kind, NOTE_LIMIT};
 use crate::model::{Choice, doubled};
 use crate::same::Same;
-use yilgashe_sys::{Hall, ProposedMatch, QueueEntry};
+use yilgashe_sys::{Booking, Hall, ProposedMatch, Queue};
 
 /// What a call is by the list alone.
 #[derive(Clone, Copy, Debug, PartialEq)]
@@ -27,7 +27,7 @@ struct Original {
 #[derive(Default)]
 pub struct Ledger {
     originals: Vec<Original>,
-    waiting: Vec<QueueEntry>,
+    waiting: Vec<Booking>,
     accepted: usize,
     withdrawn: usize,
     seated: usize,
@@ -43,9 +43,9 @@ impl Ledger {
         after: &Hall,
     ) -> Result<Mark, String> {
         let entered = match call {
-            Call::Book { key, entry } => self.book(*key, entry, answer.refusal),
+            Call::Book { key, booking } => self.book(*key, booking, answer.refusal),
             Call::Withdraw { key, player } => self.withdraw(*key, *player, answer.refusal),
-            Call::Round(round) => self.round(round, answer, before),
+            Call::Round(round) => self.round(round, answer, before, after),
         };
         let checked = entered.and_then(|mark| {
             let idle = match mark {
@@ -58,19 +58,20 @@ impl Ledger {
                 "a resend or a refused call changes the hall",
             )?;
             self.balance(before, after)?;
+            games_kept(answer, before, after)?;
             Ok(mark)
         });
         checked.map_err(|broken| {
-            let (before, after) = (before.queue(), after.queue());
+            let (before, after) = (before.booked(), after.booked());
             format!("demand 3: {broken}\n  {call:?}\n  {answer:?}\n  {before:?}\n  {after:?}")
         })
     }
 
-    fn book(&mut self, key: u64, entry: &QueueEntry, refusal: u8) -> Result<Mark, &'static str> {
-        let mark = self.mark(key, Kind::Booking, entry.player, refusal)?;
+    fn book(&mut self, key: u64, booking: &Booking, refusal: u8) -> Result<Mark, &'static str> {
+        let mark = self.mark(key, Kind::Booking, booking.player, refusal)?;
         if mark == Mark::Original && refusal == 0 {
             self.accepted += 1;
-            self.waiting.push(*entry);
+            self.waiting.push(*booking);
         }
         Ok(mark)
     }
@@ -79,7 +80,7 @@ impl Ledger {
         let mark = self.mark(key, Kind::Withdrawal, guest, refusal)?;
         if mark == Mark::Original && refusal == 0 {
             self.withdrawn += 1;
-            self.waiting.retain(|entry| entry.player != guest);
+            self.waiting.retain(|booking| booking.player != guest);
         }
         Ok(mark)
     }
@@ -107,40 +108,45 @@ impl Ledger {
         }
     }
 
+    /// The game's sizes say how many seats the sheet holds, and only its own guests take them.
     fn round(
         &mut self,
         round: &Round,
         answer: &Answer,
         before: &Hall,
+        after: &Hall,
     ) -> Result<Mark, &'static str> {
-        if answer.refusal > 0 {
+        let game = round.played(answer).filter(|_| answer.refusal == 0);
+        let Some(game) = game else {
             let untouched = answer.count == 0 && answer.sheets.same(&round.sheets);
-            ensure(untouched, "a refused round writes to its sheets")?;
+            ensure(untouched, "a round of no game writes to its sheets")?;
             return Ok(Mark::Other);
-        }
-        let places = answer.count * (round.sizes.a + round.sizes.b);
+        };
+        let sizes = sizes_for(&games_of(before), game);
+        let places = answer.count * (sizes.a + sizes.b);
+        written_alone(round, answer, places)?;
         let seated = &answer.sheets.players[..places];
-        let waits = |guest| before.booked().iter().any(|b| b.player == guest);
+        let own = entries_for(before.booked(), game);
+        let waits = |guest| own.iter().any(|entry| entry.player == guest);
         ensure(!doubled(seated), "a guest is seated twice in a round")?;
         ensure(
             seated.iter().all(|&guest| waits(guest)),
-            "a guest is seated who does not wait",
+            "a guest is seated who does not wait for the game",
         )?;
-        let mut qualities = answer.sheets.qualities[..answer.count].iter();
         ensure(
-            qualities.all(|quality| (0.0..=1.0).contains(quality)),
-            "a quality is out of bounds",
+            of_others(before, game).same(&of_others(after, game)),
+            "a round changes another game's bookings",
         )?;
         best_of_all(round, answer.count, seated, before)?;
         self.seated += places;
-        self.waiting.retain(|entry| !seated.contains(&entry.player));
+        self.waiting
+            .retain(|booking| !seated.contains(&booking.player));
         Ok(Mark::Other)
     }
 
     /// Nobody and no note appears or vanishes otherwise.
     fn balance(&self, before: &Hall, after: &Hall) -> Result<(), &'static str> {
-        let queue = after.queue();
-        let waiting = queue.waiting();
+        let waiting = after.booked();
         ensure(
             waiting.same(&self.waiting),
             "the queue is not that of those who wait, in the order booked",
@@ -149,11 +155,47 @@ impl Ledger {
             self.accepted == waiting.len() + self.withdrawn + self.seated,
             "accepted is not waiting + withdrawn + seated",
         )?;
-        let guests: Vec<u64> = waiting.iter().map(|entry| entry.player).collect();
+        let guests: Vec<u64> = waiting.iter().map(|booking| booking.player).collect();
         ensure(!doubled(&guests), "a guest waits twice")?;
         let kept = before.answered().eq(after.answered().take(before.noted));
         ensure(kept, "a note is dropped or changed")
     }
+}
+
+/// Sizes never change, and the last game served is the one that the answer names, or as it was.
+fn games_kept(answer: &Answer, before: &Hall, after: &Hall) -> Result<(), &'static str> {
+    ensure(before.sizes == after.sizes, "a game's sizes change")?;
+    let due = answer.served.or(game_in(before.served));
+    ensure(
+        game_in(after.served) == due,
+        "the last game served is not the one that was served last",
+    )
+}
+
+/// Just these seats, and as many qualities as matches, from 0.0 to 1.0; behind them the sheets are as they came.
+fn written_alone(round: &Round, answer: &Answer, places: usize) -> Result<(), &'static str> {
+    let (given, came) = (&answer.sheets, &round.sheets);
+    let count = answer.count;
+    ensure(
+        places <= given.players.len() && count <= given.qualities.len(),
+        "more seats than the sheets hold",
+    )?;
+    ensure(
+        given.players[places..].same(&came.players[places..])
+            && given.qualities[count..].same(&came.qualities[count..]),
+        "a sheet is written to behind the seats of the game's matches",
+    )?;
+    let mut qualities = given.qualities[..count].iter();
+    ensure(
+        qualities.all(|quality| (0.0..=1.0).contains(quality)),
+        "a quality is out of bounds",
+    )
+}
+
+/// The bookings of all games but this one, in the order booked.
+fn of_others(hall: &Hall, game: u8) -> Vec<Booking> {
+    let others = hall.booked().iter().filter(|booking| booking.game != game);
+    others.copied().collect()
 }
 
 /// A full round hands out at most one match, and one exactly when some choice passes: a passing one, and none scores higher.
@@ -163,10 +205,12 @@ fn best_of_all(
     seated: &[u64],
     before: &Hall,
 ) -> Result<(), &'static str> {
-    let Search::Full(full) = &round.search else {
+    let Search::Full(game, full) = &round.search else {
         return Ok(());
     };
-    let choice = Choice::of(before.queue(), round.sizes, full);
+    let own = entries_for(before.booked(), *game);
+    let sizes = sizes_for(&games_of(before), *game);
+    let choice = Choice::of(Queue::of(&own), sizes, full);
     let weighed = choice.listed().into_iter().zip(choice.weighed());
     let passing = weighed.filter(|(_, (passes, _))| *passes);
     let passing: Vec<(ProposedMatch, f64)> = passing.map(|(m, (_, score))| (m, score)).collect();

@@ -1,7 +1,7 @@
 //! Full rounds that bring waiting friends: whether that matters, and what comes with it.
 
 use super::counter::{Counter, Modelled};
-use crate::data::{Answer, Call, Search};
+use crate::data::{Answer, Call, Search, entries_for};
 use crate::model::of_two_parties;
 use crate::same::Same;
 use yilgashe_sys::Hall;
@@ -13,13 +13,14 @@ pub struct Friends {
     pub parted: bool,
     /// Are the roster's parties brought too?
     pub both: bool,
-    /// Does somebody wait twice, with two parties?
+    /// Does somebody wait for the game twice, with two parties?
     pub twofold: bool,
 }
 
 /// None of any other call.
 pub fn friends(call: &Call, answer: &Answer, before: &Hall) -> Option<Friends> {
-    let (_, full) = call.full_round()?;
+    let (round, full) = call.full_round()?;
+    let waiting = entries_for(before.booked(), round.game()?);
     if answer.refusal > 0 || !full.rules.waiting_friends {
         return None;
     }
@@ -27,7 +28,7 @@ pub fn friends(call: &Call, answer: &Answer, before: &Hall) -> Option<Friends> {
     Some(Friends {
         parted: !without.same(answer),
         both: full.rules.constraints.brought.parties,
-        twofold: of_two_parties(before.queue().waiting()),
+        twofold: of_two_parties(&waiting),
     })
 }
 
@@ -35,7 +36,7 @@ pub fn friends(call: &Call, answer: &Answer, before: &Hall) -> Option<Friends> {
 fn without_friends(call: &Call) -> Call {
     let mut call = call.clone();
     if let Call::Round(round) = &mut call
-        && let Search::Full(full) = &mut round.search
+        && let Search::Full(_, full) = &mut round.search
     {
         full.rules.waiting_friends = false;
     }

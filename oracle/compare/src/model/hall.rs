@@ -1,10 +1,11 @@
-//! The hall: who waits and which keys are noted, as lists that grow and shrink, with the checks in the paper's order.
+//! The hall: who waits, which keys are noted, the games and the last one served, as lists that grow and shrink, with the checks in the
+//! paper's order.
 
 mod rounds;
 
-use super::{CLOCK, OVER_LIMIT, QUEUE_LIMIT, first, late};
-use crate::data::{Answer, Call};
-use yilgashe_sys::QueueEntry;
+use super::{CLOCK, OVER_LIMIT, QUEUE_LIMIT, first, large, late};
+use crate::data::{Answer, Call, GAMES, entries_for, sizes_for};
+use yilgashe_sys::{Booking, Games, QueueEntry, TeamComposition};
 
 /// The key book holds this many notes.
 pub const NOTE_LIMIT: usize = 1024;
@@ -14,6 +15,7 @@ pub const BOOK_FULL: u8 = 8;
 pub const ALREADY_WAITING: u8 = 9;
 pub const HALL_FULL: u8 = 10;
 pub const NOT_WAITING: u8 = 11;
+pub const NO_SUCH_GAME: u8 = 13;
 
 #[derive(Clone, Copy, Debug, PartialEq)]
 pub enum Kind {
@@ -27,7 +29,7 @@ impl Kind {
     /// What a new key's call of this kind can be answered.
     fn answers(self) -> &'static [u8] {
         match self {
-            Kind::Booking => &[0, CLOCK, ALREADY_WAITING, HALL_FULL],
+            Kind::Booking => &[0, CLOCK, ALREADY_WAITING, HALL_FULL, NO_SUCH_GAME],
             Kind::Withdrawal => &[0, NOT_WAITING],
             Kind::Neither(_) => &[],
         }
@@ -50,11 +52,14 @@ impl Note {
     }
 }
 
-/// The default one is empty: nobody waits, and no key is noted.
+/// The default one is empty, and uses no game.
 #[derive(Clone, Debug, Default)]
 pub struct Hall {
-    pub waiting: Vec<QueueEntry>,
+    pub waiting: Vec<Booking>,
     pub notes: Vec<Note>,
+    pub games: Games,
+    /// The last game served, if one was.
+    pub served: Option<u8>,
 }
 
 /// Is a hall that states these lengths over limit?
@@ -62,10 +67,25 @@ pub fn over_limit(waiting: usize, notes: usize) -> bool {
     waiting > QUEUE_LIMIT || notes > NOTE_LIMIT
 }
 
+/// Is it a number above 7?
+pub fn no_such_game(game: u8) -> bool {
+    usize::from(game) >= GAMES
+}
+
 impl Hall {
+    /// Empty: nobody waits, no key is noted, and no game was served.
+    pub fn open(games: Games) -> Self {
+        Hall {
+            games,
+            ..Hall::default()
+        }
+    }
+
     /// A booking under a key; the answer is 0 or a refusal.
-    pub fn book(&mut self, key: u64, entry: QueueEntry) -> u8 {
-        self.keyed(key, Kind::Booking, entry.player, |hall| hall.append(entry))
+    pub fn book(&mut self, key: u64, booking: Booking) -> u8 {
+        self.keyed(key, Kind::Booking, booking.player, |hall| {
+            hall.append(booking)
+        })
     }
 
     /// A withdrawal under a key; the answer is 0 or a refusal.
@@ -76,14 +96,41 @@ impl Hall {
     /// Any call.
     pub fn answer(&mut self, call: &Call) -> Answer {
         match call {
-            Call::Book { key, entry } => Answer::keyed(self.book(*key, *entry)),
+            Call::Book { key, booking } => Answer::keyed(self.book(*key, *booking)),
             Call::Withdraw { key, player } => Answer::keyed(self.withdraw(*key, *player)),
             Call::Round(round) => self.round(round),
         }
     }
 
+    /// Too many wait or are noted, a game has a size over 8, or the last one served is none.
     pub fn is_over(&self) -> bool {
         over_limit(self.waiting.len(), self.notes.len())
+            || self.games.sizes.iter().any(large)
+            || self.served.is_some_and(no_such_game)
+    }
+
+    /// Whom a round of the game may seat.
+    pub fn entries(&self, game: u8) -> Vec<QueueEntry> {
+        entries_for(&self.waiting, game)
+    }
+
+    pub fn sizes(&self, game: u8) -> TeamComposition {
+        sizes_for(&self.games, game)
+    }
+
+    /// Has the game A + B above 0, and at least that many waiting?
+    pub fn has_enough(&self, game: u8) -> bool {
+        let TeamComposition { a, b } = self.sizes(game);
+        a + b > 0 && self.entries(game).len() >= a + b
+    }
+
+    /// The game whose turn it is: the next one that has enough, round the circle behind the last one served, from game 0 at first.
+    pub fn next_game(&self) -> Option<u8> {
+        let games = 0..GAMES as u8;
+        let (up_to_last, behind): (Vec<u8>, Vec<u8>) =
+            games.partition(|game| self.served.is_some_and(|last| *game <= last));
+        let mut circle = behind.into_iter().chain(up_to_last);
+        circle.find(|game| self.has_enough(*game))
     }
 
     fn keyed(&mut self, key: u64, kind: Kind, guest: u64, act: impl FnOnce(&mut Hall) -> u8) -> u8 {
@@ -107,14 +154,16 @@ impl Hall {
         }
     }
 
-    fn append(&mut self, entry: QueueEntry) -> u8 {
+    /// Whoever waits for any game already waits.
+    fn append(&mut self, booking: Booking) -> u8 {
         let refusal = first(&[
-            (late(entry.joined), CLOCK),
-            (self.place(entry.player).is_some(), ALREADY_WAITING),
+            (no_such_game(booking.game), NO_SUCH_GAME),
+            (late(booking.joined), CLOCK),
+            (self.place(booking.player).is_some(), ALREADY_WAITING),
             (self.waiting.len() == QUEUE_LIMIT, HALL_FULL),
         ]);
         if refusal == 0 {
-            self.waiting.push(entry);
+            self.waiting.push(booking);
         }
         refusal
     }
@@ -129,9 +178,10 @@ impl Hall {
         }
     }
 
-    /// Of the guest's first entry.
+    /// Of the guest's first booking, for whatever game.
     fn place(&self, guest: u64) -> Option<usize> {
-        self.waiting.iter().position(|entry| entry.player == guest)
+        let mut guests = self.waiting.iter().map(|booking| booking.player);
+        guests.position(|waiting| waiting == guest)
     }
 }
 
@@ -140,43 +190,50 @@ mod tests {
     use super::super::CLOCK_LIMIT;
     use super::*;
 
-    fn entry(player: u64) -> QueueEntry {
-        QueueEntry {
+    fn booking(player: u64) -> Booking {
+        Booking {
             player,
-            ..QueueEntry::default()
+            ..Booking::default()
+        }
+    }
+
+    fn for_game(player: u64, game: u8) -> Booking {
+        Booking {
+            game,
+            ..booking(player)
         }
     }
 
     fn players(hall: &Hall) -> Vec<u64> {
-        hall.waiting.iter().map(|entry| entry.player).collect()
+        hall.waiting.iter().map(|booking| booking.player).collect()
     }
 
     #[test]
     fn the_starred_line() {
         let mut hall = Hall::default();
-        assert_eq!(hall.book(7, entry(1)), 0);
-        assert_eq!(hall.book(7, entry(1)), 0);
+        assert_eq!(hall.book(7, booking(1)), 0);
+        assert_eq!(hall.book(7, booking(1)), 0);
         assert_eq!(hall.waiting.len(), 1);
-        assert_eq!(hall.book(7, entry(2)), 7);
-        assert_eq!(hall.book(8, entry(1)), 9);
+        assert_eq!(hall.book(7, booking(2)), 7);
+        assert_eq!(hall.book(8, booking(1)), 9);
     }
 
     #[test]
     fn noted_refusals_come_again() {
         let mut hall = Hall::default();
-        let late = QueueEntry {
+        let late = Booking {
             joined: CLOCK_LIMIT + 1,
-            ..entry(1)
+            ..booking(1)
         };
         assert_eq!(hall.book(1, late), 4);
-        assert_eq!(hall.book(1, entry(1)), 4);
+        assert_eq!(hall.book(1, booking(1)), 4);
         assert_eq!(hall.withdraw(2, 1), 11);
-        assert_eq!(hall.book(3, entry(1)), 0);
+        assert_eq!(hall.book(3, booking(1)), 0);
         assert_eq!(hall.book(4, late), 4);
-        assert_eq!(hall.book(5, entry(1)), 9);
+        assert_eq!(hall.book(5, booking(1)), 9);
         assert_eq!(hall.withdraw(2, 1), 11);
         assert_eq!(hall.withdraw(6, 1), 0);
-        assert_eq!(hall.book(5, entry(1)), 9);
+        assert_eq!(hall.book(5, booking(1)), 9);
         assert_eq!(hall.withdraw(3, 1), 7);
         assert_eq!(hall.withdraw(2, 9), 7);
         assert_eq!(players(&hall), []);
@@ -187,16 +244,16 @@ mod tests {
     fn sixty_four_may_wait() {
         let mut hall = Hall::default();
         for guest in 0..64 {
-            assert_eq!(hall.book(guest, entry(guest)), 0);
+            assert_eq!(hall.book(guest, booking(guest)), 0);
         }
-        assert_eq!(hall.book(64, entry(64)), 10);
-        assert_eq!(hall.book(65, entry(63)), 9);
+        assert_eq!(hall.book(64, booking(64)), 10);
+        assert_eq!(hall.book(65, booking(63)), 9);
         assert_eq!(hall.withdraw(66, 3), 0);
-        assert_eq!(hall.book(64, entry(64)), 10);
-        assert_eq!(hall.book(67, entry(64)), 0);
+        assert_eq!(hall.book(64, booking(64)), 10);
+        assert_eq!(hall.book(67, booking(64)), 0);
         assert_eq!(players(&hall)[62..], [63, 64]);
-        hall.waiting.push(entry(9));
-        assert_eq!(hall.book(0, entry(0)), 1);
+        hall.waiting.push(booking(9));
+        assert_eq!(hall.book(0, booking(0)), 1);
         assert_eq!(hall.withdraw(0, 0), 1);
     }
 
@@ -207,9 +264,9 @@ mod tests {
             assert_eq!(hall.withdraw(key, 5), 11);
         }
         assert_eq!(hall.withdraw(1024, 5), 8);
-        assert_eq!(hall.book(1024, entry(5)), 8);
+        assert_eq!(hall.book(1024, booking(5)), 8);
         assert_eq!(hall.withdraw(1023, 5), 11);
-        assert_eq!(hall.book(1023, entry(5)), 7);
+        assert_eq!(hall.book(1023, booking(5)), 7);
         assert_eq!(hall.notes.len(), 1024);
         hall.notes.push(hall.notes[0]);
         assert_eq!(hall.withdraw(0, 5), 1);
@@ -225,13 +282,13 @@ mod tests {
                 answer,
             };
             let mut hall = Hall {
-                waiting: Vec::new(),
                 notes: vec![note],
+                ..Hall::default()
             };
-            (hall.book(7, entry(1)), hall.withdraw(7, 1))
+            (hall.book(7, booking(1)), hall.withdraw(7, 1))
         };
-        for answer in 0..=13 {
-            let booked = [0, 4, 9, 10].contains(&answer).then_some(answer);
+        for answer in 0..=14 {
+            let booked = [0, 4, 9, 10, 13].contains(&answer).then_some(answer);
             let left = [0, 11].contains(&answer).then_some(answer);
             assert_eq!(answered(Kind::Booking, answer), (booked.unwrap_or(7), 7));
             assert_eq!(answered(Kind::Withdrawal, answer), (7, left.unwrap_or(7)));
@@ -242,10 +299,90 @@ mod tests {
     #[test]
     fn a_withdrawal_takes_the_first_entry() {
         let mut hall = Hall {
-            waiting: vec![entry(1), entry(2), entry(1)],
-            notes: Vec::new(),
+            waiting: vec![for_game(1, 3), booking(2), booking(1)],
+            ..Hall::default()
         };
         assert_eq!(hall.withdraw(1, 1), 0);
         assert_eq!(players(&hall), [2, 1]);
+    }
+
+    /// After 7 and 8, before 4, 9 and 10; an unused game is one.
+    #[test]
+    fn no_game_above_seven() {
+        let mut hall = Hall::default();
+        assert_eq!(hall.book(1, for_game(1, 7)), 0);
+        assert_eq!(hall.book(2, for_game(2, 8)), 13);
+        assert_eq!(hall.book(2, for_game(2, 0)), 13);
+        assert_eq!(hall.book(2, for_game(3, 8)), 7);
+        assert_eq!(hall.withdraw(2, 2), 7);
+        assert_eq!(hall.book(3, for_game(1, 255)), 13);
+        let late = Booking {
+            joined: CLOCK_LIMIT + 1,
+            ..for_game(1, 8)
+        };
+        assert_eq!(hall.book(4, late), 13);
+        assert_eq!(hall.notes.len(), 4);
+        hall.notes.resize(1024, hall.notes[0]);
+        assert_eq!(hall.book(5, for_game(5, 8)), 8);
+    }
+
+    #[test]
+    fn a_guest_waits_for_one_game() {
+        let mut hall = Hall::default();
+        assert_eq!(hall.book(1, for_game(1, 0)), 0);
+        assert_eq!(hall.book(2, for_game(1, 1)), 9);
+        assert_eq!(hall.withdraw(3, 1), 0);
+        assert_eq!(hall.book(4, for_game(1, 1)), 0);
+    }
+
+    #[test]
+    fn halls_over_limit_by_their_games() {
+        let answers = |hall: &Hall| {
+            let mut hall = hall.clone();
+            [hall.book(1, booking(1)), hall.withdraw(2, 1)]
+        };
+        let mut hall = Hall::default();
+        for served in [None, Some(0), Some(7)] {
+            hall.served = served;
+            assert_eq!(answers(&hall), [0, 0]);
+        }
+        for served in [8, 9, 254] {
+            hall.served = Some(served);
+            assert_eq!(answers(&hall), [1, 1]);
+        }
+        hall.served = None;
+        hall.games.sizes[7].b = 8;
+        assert_eq!(answers(&hall), [0, 0]);
+        hall.games.sizes[7].b = 9;
+        assert_eq!(answers(&hall), [1, 1]);
+    }
+
+    /// Games 1, 4 and 6 of 1+1 have enough, game 2 too few, and game 3 is not used.
+    #[test]
+    fn turns_go_round() {
+        let mut hall = Hall::default();
+        for game in [1, 2, 4, 6] {
+            hall.games.sizes[game] = TeamComposition { a: 1, b: 1 };
+        }
+        let games = [1, 6, 4, 3, 2, 4, 6, 1, 3, 6, 200];
+        hall.waiting = (0..)
+            .zip(games)
+            .map(|(n, game)| for_game(n, game))
+            .collect();
+        let mut next = |served| {
+            hall.served = served;
+            hall.next_game()
+        };
+        assert_eq!(next(None), Some(1));
+        let turns = [1, 4, 4, 4, 6, 6, 1, 1];
+        for (last, turn) in (0..).zip(turns) {
+            assert_eq!(next(Some(last)), Some(turn), "behind {last}");
+        }
+        hall.waiting
+            .retain(|booking| booking.game != 6 && booking.game != 4);
+        hall.served = Some(1);
+        assert_eq!(hall.next_game(), Some(1));
+        hall.waiting.remove(0);
+        assert_eq!(hall.next_game(), None);
     }
 }
