@@ -5,6 +5,7 @@ use crate::entries;
 use crate::entries::Entered;
 use crate::fields;
 use crate::fields::Fields;
+use crate::games;
 use crate::goals;
 use crate::guests::Row;
 use crate::help;
@@ -15,7 +16,9 @@ use crate::old;
 use crate::print;
 use crate::refusals;
 use crate::rounds;
+use crate::rounds::Round;
 use crate::rules;
+use crate::tally::Tally;
 use crate::values::Kind;
 use crate::words;
 use crate::words::Heard;
@@ -36,6 +39,9 @@ pub fn serve(desk: Desk, text: &[u8], number: u64) -> Desk {
         command: command,
     };
     let name = words::bytes_of(text, command);
+    if same(name, b"open") {
+        return games::open(desk, text, heard);
+    }
     if same(name, b"guest") {
         return guest(desk, text, heard);
     }
@@ -45,14 +51,22 @@ pub fn serve(desk: Desk, text: &[u8], number: u64) -> Desk {
     if same(name, b"withdraw") {
         return withdraw(desk, text, heard);
     }
+    searches(desk, text, heard, name)
+}
+
+// Rounds, and what the old counter exported.
+fn searches(desk: Desk, text: &[u8], heard: Heard, name: &[u8]) -> Desk {
     if same(name, b"greedy") {
-        return rounds::greedy(desk, text, heard);
+        return rounds::serve(desk, text, heard, Round::Greedy);
     }
     if same(name, b"beam") {
-        return rounds::beam(desk, text, heard);
+        return rounds::serve(desk, text, heard, Round::Beam);
     }
     if same(name, b"full") {
-        return rounds::full(desk, text, heard);
+        return rounds::serve(desk, text, heard, Round::Full);
+    }
+    if same(name, b"dispatch") {
+        return rounds::serve(desk, text, heard, Round::Dispatch);
     }
     if same(name, b"old") {
         return old::serve(desk, text, heard);
@@ -80,19 +94,20 @@ fn settings(desk: Desk, text: &[u8], heard: Heard, name: &[u8]) -> Desk {
         return quit(desk, text, heard);
     }
     let hall = desk.hall;
-    listings(hall, desk.seated, text, heard, name);
+    let tally = desk.tally;
+    listings(hall, tally, text, heard, name);
     desk
 }
 
 fn quit(desk: Desk, text: &[u8], heard: Heard) -> Desk {
     if fields::end(text, heard, heard.behind()) {
-        return desk.closed();
+        return desk.quit();
     }
     desk
 }
 
 // Commands that change nothing, and those that are none.
-fn listings(hall: Hall, seated: u64, text: &[u8], heard: Heard, name: &[u8]) {
+fn listings(hall: Hall, tally: Tally, text: &[u8], heard: Heard, name: &[u8]) {
     if same(name, b"queue") {
         listing::queue(hall, text, heard);
         return;
@@ -102,7 +117,7 @@ fn listings(hall: Hall, seated: u64, text: &[u8], heard: Heard, name: &[u8]) {
         return;
     }
     if same(name, b"totals") {
-        listing::totals(hall, seated, text, heard);
+        listing::totals(hall, tally, text, heard);
         return;
     }
     if same(name, b"help") {
@@ -170,7 +185,7 @@ pub fn half(value: u64) -> u32 {
     (value % 4294967296) as u32
 }
 
-// A region's code, which is below 5.
+// A region's code, which is below 5, or a game's number, which is below 256.
 pub fn byte(value: u64) -> u8 {
     (value % 256) as u8
 }
@@ -181,36 +196,58 @@ const NEEDED: u32 = fields::KEY | fields::GUEST;
 
 const BOOKED: u32 = fields::KEY | entries::NEEDED;
 
-const BOOKING: u32 = fields::KEY | entries::ALLOWED;
+const BOOKING: u32 = BOOKED | entries::ALLOWED | fields::GAME;
 
+// `book key 7 guest 12 joined 30s ..`: for game 0 where none is given.
 fn book(desk: Desk, text: &[u8], heard: Heard) -> Desk {
+    if !games::is_open(desk.open, heard) {
+        return desk;
+    }
     let given = fields::read(text, heard, heard.behind(), BOOKED, BOOKING);
     let read = entries::entry_of(desk.roster, given, text, heard);
     let Entered::As(entry) = read else {
         return desk;
     };
     let hall = desk.hall;
+    let sizes = hall.sizes;
+    let tally = desk.tally;
     let key = given.whole(fields::KEY);
-    told(
-        desk,
-        halls::yilgashe_hall_book(hall, key, entries::booking_of(entry)),
-    )
+    let game = byte(given.whole(fields::GAME));
+    let keyed = halls::yilgashe_hall_book(hall, key, entries::booking_of(entry, game));
+    let next = told(desk, keyed, tally.with_accepted(game));
+    if keyed.refusal == 0 {
+        games::remark(game, sizes);
+    }
+    next
 }
 
 fn withdraw(desk: Desk, text: &[u8], heard: Heard) -> Desk {
+    if !games::is_open(desk.open, heard) {
+        return desk;
+    }
     let given = fields::read(text, heard, heard.behind(), NEEDED, NEEDED);
     if !given.ok {
         return desk;
     }
     let hall = desk.hall;
+    let tally = desk.tally;
+    let bookings = hall.bookings;
     let key = given.whole(fields::KEY);
     let guest = given.whole(fields::GUEST);
-    told(desk, halls::yilgashe_hall_withdraw(hall, key, guest))
+    let game = games::of_guest(bookings, hall.waiting, guest);
+    let keyed = halls::yilgashe_hall_withdraw(hall, key, guest);
+    told(desk, keyed, tally.with_withdrawn(game))
 }
 
-// Says the answer of a keyed call, and keeps its hall.
-fn told(desk: Desk, keyed: Keyed) -> Desk {
-    let hall = keyed.hall;
+// Says the answer of a keyed call, and keeps its hall. The tally counts the call unless as many wait as before: it was refused then, or a
+// resend.
+fn told(desk: Desk, keyed: Keyed, counted: Tally) -> Desk {
+    let before = desk.hall;
+    let after = keyed.hall;
     refusals::answer(keyed.refusal);
-    desk.with_hall(hall)
+    let next = desk.with_hall(after);
+    if after.waiting == before.waiting {
+        return next;
+    }
+    next.with_tally(counted)
 }

@@ -136,6 +136,19 @@ pub fn needs_rating(text: &[u8], heard: Heard, guest: u64) {
     print::text(b" has no roster row\n");
 }
 
+// A call of a hall that has no games yet.
+pub fn not_open(heard: Heard) {
+    line(heard.number);
+    print::text(
+        b"the hall is not open yet; open it with the sizes of its games, as in: open 5+5 2+2\n",
+    );
+}
+
+pub fn open_already(heard: Heard) {
+    line(heard.number);
+    print::text(b"the hall is open already, and its games stay as they are\n");
+}
+
 pub fn unknown(text: &[u8], heard: Heard) {
     line(heard.number);
     print::text(b"unknown command '");

@@ -1,41 +1,68 @@
 // What the desk keeps in the evening.
 use crate::guests::Roster;
+use crate::tally::Tally;
+use capi::halls;
+use capi::halls::Games;
 use capi::halls::RoundRules;
 use capi::scores::SoftObjectives;
 use hall::Hall;
 use queue::Queue;
+use seating::TeamComposition;
 
 pub struct Desk {
     pub hall: Hall,
+    // Has the hall been opened, with the sizes of its games?
+    pub open: bool,
+    pub tally: Tally,
     pub roster: Roster,
     // For the next full rounds.
     pub rules: RoundRules,
     pub goals: SoftObjectives,
     // Exported by the old counter. No call of the hall looks at it.
     pub old: Queue,
-    // Guests of every match that was handed out.
-    pub seated: u64,
-    // False after quit.
-    pub open: bool,
+    // True after quit.
+    pub closed: bool,
+}
+
+// No game is used.
+fn no_games() -> Games {
+    Games {
+        sizes: [TeamComposition { a: 0, b: 0 }; 8],
+    }
 }
 
 impl Desk {
     // The evening begins.
     pub fn fresh() -> Desk {
         Desk {
-            hall: capi::halls::yilgashe_hall_empty(),
+            hall: halls::yilgashe_hall_empty(no_games()),
+            open: false,
+            tally: Tally::empty(),
             roster: Roster::empty(),
             rules: crate::rules::none(),
             goals: crate::goals::none(),
             old: Queue::empty(),
-            seated: 0,
-            open: true,
+            closed: false,
         }
+    }
+
+    // The hall is opened with these games.
+    pub fn opened(self, games: Games) -> Desk {
+        let mut next = self;
+        next.hall = halls::yilgashe_hall_empty(games);
+        next.open = true;
+        next
     }
 
     pub fn with_hall(self, hall: Hall) -> Desk {
         let mut next = self;
         next.hall = hall;
+        next
+    }
+
+    pub fn with_tally(self, tally: Tally) -> Desk {
+        let mut next = self;
+        next.tally = tally;
         next
     }
 
@@ -63,16 +90,9 @@ impl Desk {
         next
     }
 
-    // So many guests more have been seated.
-    pub fn with_seated(self, guests: u64) -> Desk {
+    pub fn quit(self) -> Desk {
         let mut next = self;
-        next.seated = std::num::wrapping_add_u64(self.seated, guests);
-        next
-    }
-
-    pub fn closed(self) -> Desk {
-        let mut next = self;
-        next.open = false;
+        next.closed = true;
         next
     }
 }

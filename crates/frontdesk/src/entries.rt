@@ -39,14 +39,15 @@ pub fn entry_of(roster: Roster, given: Fields, text: &[u8], heard: Heard) -> Ent
     })
 }
 
-// What the hall takes for an entry.
-pub fn booking_of(entry: QueueEntry) -> Booking {
+// What the hall takes for an entry that is to wait for a game.
+pub fn booking_of(entry: QueueEntry, game: u8) -> Booking {
     Booking {
         player: entry.player,
         joined: entry.joined,
         rating: entry.rating,
         party: entry.party,
         role: entry.role,
+        game: game,
     }
 }
 

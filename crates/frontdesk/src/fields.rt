@@ -40,13 +40,15 @@ pub const AT_LEAST: u32 = 16384;
 
 pub const AT_MOST: u32 = 32768;
 
+pub const GAME: u32 = 65536;
+
 // What a line gives, a value at each field's place, and 0 where it gives none.
 pub struct Fields {
     // Behind the last field that was read.
     pub at: usize,
     pub seen: u32,
-    pub wholes: [u64; 16],
-    pub reals: [f64; 16],
+    pub wholes: [u64; 17],
+    pub reals: [f64; 17],
     // False once a complaint was made.
     pub ok: bool,
 }
@@ -61,8 +63,8 @@ impl Fields {
         Fields {
             at: at,
             seen: 0,
-            wholes: [0; 16],
-            reals: [0.0; 16],
+            wholes: [0; 17],
+            reals: [0.0; 17],
             ok: true,
         }
     }
@@ -87,7 +89,7 @@ impl Fields {
     pub fn whole(self, field: u32) -> u64 {
         let wholes = self.wholes;
         let i = place_of(field);
-        if i < 16 {
+        if i < 17 {
             return wholes[i];
         }
         0
@@ -97,7 +99,7 @@ impl Fields {
     pub fn real(self, field: u32) -> f64 {
         let reals = self.reals;
         let i = place_of(field);
-        if i < 16 {
+        if i < 17 {
             return reals[i];
         }
         0.0
@@ -124,7 +126,7 @@ impl Fields {
         let mut next = self;
         next.at = at;
         next.seen = self.seen | field;
-        if i < 16 {
+        if i < 17 {
             next.wholes[i] = value.whole;
             next.reals[i] = value.real;
         }
@@ -157,6 +159,9 @@ fn guests_field(name: &[u8]) -> u32 {
     }
     if same(name, b"region") {
         return REGION;
+    }
+    if same(name, b"game") {
+        return GAME;
     }
     0
 }
@@ -193,6 +198,9 @@ fn rounds_field(name: &[u8]) -> u32 {
 fn kind_of(field: u32) -> Kind {
     if field == ROLE {
         return Kind::Whole(4294967295);
+    }
+    if field == GAME {
+        return Kind::Whole(255);
     }
     if field == REGION {
         return Kind::Region;
@@ -238,10 +246,10 @@ fn goes_on(text: &[u8], fields: Fields) -> bool {
     !next.is_end()
 }
 
-// Every field from `at` to the line's end. Each turn reads a new one of sixteen, so that seventeen are enough.
+// Every field from `at` to the line's end. Each turn reads a new one of seventeen, so that eighteen are enough.
 fn read_all(text: &[u8], heard: Heard, at: usize, allowed: u32) -> Fields {
     let mut fields = Fields::none(at);
-    let mut turns: usize = 17;
+    let mut turns: usize = 18;
     while 0 < turns {
         if !goes_on(text, fields) {
             return fields;

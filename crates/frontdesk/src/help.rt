@@ -13,16 +13,22 @@ fn all() {
     print::text(b"one command a line; named fields in any order; what is in [ ] may be left out\n");
     calls();
     rounds();
+    rules();
     old();
     others();
 }
 
 fn calls() {
+    print::text(b"  open 5+5 2+2\n");
+    print::text(
+        b"      opens the hall, once an evening: the team sizes of game 0, game 1 and so on, up to game 7\n",
+    );
     print::text(b"  guest 12 [rating 1510.5] [deviation 80] [party 3] [role 2] [region EU]\n");
     print::text(
         b"      a guest's roster row, new or replaced; regions are NA EU Asia Other none\n",
     );
-    print::text(b"  book key 7 guest 12 joined 30s [rating 1510.5] [party 3] [role 2]\n");
+    print::text(b"  book key 7 guest 12 joined 30s [game 1] [rating 1510.5] [party 3] [role 2]\n");
+    print::text(b"      game 0 where none is given; a guest waits for one game at a time\n");
     print::text(b"      rating, party and role are else those of the guest's row\n");
     print::text(b"  withdraw key 8 guest 12\n");
     print::text(
@@ -31,12 +37,22 @@ fn calls() {
 }
 
 fn rounds() {
-    print::text(b"  greedy 5+5 at 120s\n");
+    print::text(b"  greedy [game 1] at 120s\n");
     print::text(
-        b"  beam 5+5 at 120s [width 8] [quality 1] [wait 0.5] [ping 0] [uncertainty 0.2]\n",
+        b"  beam [game 1] at 120s [width 8] [quality 1] [wait 0.5] [ping 0] [uncertainty 0.2]\n",
     );
-    print::text(b"  full 2+2 at 120s\n");
+    print::text(b"  full [game 1] at 120s\n");
+    print::text(
+        b"      a round seats guests who wait for its game, with its sizes; game 0 where none is given\n",
+    );
     print::text(b"      a full round holds to the rules and ranks by the goals that are set\n");
+    print::text(b"  dispatch at 120s\n");
+    print::text(
+        b"      a greedy round of the game whose turn it is: the next one that has a table's guests waiting\n",
+    );
+}
+
+fn rules() {
     print::text(
         b"  rule sizes 2+2    rule role 2 [at-least 1] [at-most 2]    rule regions EU NA\n",
     );
@@ -44,7 +60,7 @@ fn rounds() {
         b"  rule parties      a table seats all of the roster with the same party, or none of them\n",
     );
     print::text(
-        b"  rule friends      a table seats all who wait with the same party, or none of them\n",
+        b"  rule friends      a table seats all who wait for its game with the same party, or none of them\n",
     );
     print::text(b"  rule latency      rules      rules none\n");
     print::text(
@@ -66,5 +82,6 @@ fn old() {
 
 fn others() {
     print::text(b"  queue at 120s     keys      totals      help      quit\n");
+    print::text(b"      queue and totals go game by game\n");
     print::text(b"      times are 90s, 1.5s or 90000000000ns; # starts a comment\n");
 }

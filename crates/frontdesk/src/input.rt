@@ -73,7 +73,7 @@ fn show(shown: bool, text: &[u8]) {
 
 // A whole line.
 fn serve(desk: Desk, line: Line, shown: bool) -> Desk {
-    if !desk.open {
+    if desk.closed {
         return desk;
     }
     if line.long {
@@ -107,7 +107,7 @@ fn serve_lines(part: &[u8], session: Session) -> Session {
         desk: desk,
         line: line,
         shown: shown,
-        more: desk.open,
+        more: !desk.closed,
     }
 }
 
@@ -115,7 +115,7 @@ fn serve_lines(part: &[u8], session: Session) -> Session {
 fn ended(session: Session) -> Session {
     let desk = session.desk;
     let line = session.line;
-    if desk.open && 0 < line.len {
+    if !desk.closed && 0 < line.len {
         complaints::cut_short(line.number);
     }
     Session {

@@ -1,14 +1,16 @@
 // The queue, the key book and the totals.
-use crate::entries;
 use crate::fields;
+use crate::games;
 use crate::print;
 use crate::refusals;
+use crate::tally::Tally;
 use crate::words::Heard;
 use base::Refusal;
-use hall::Booking;
 use hall::Hall;
 use hall::Note;
+use hall::waiting;
 use queue::Queue;
+use queue::QueueEntry;
 
 // ---- who waits
 
@@ -38,10 +40,33 @@ pub fn queue(hall: Hall, text: &[u8], heard: Heard) {
     let Clock::At(clock) = read else {
         return;
     };
+    if hall.waiting == 0 {
+        print::text(b"nobody waits\n");
+        return;
+    }
+    each_game(hall, clock);
+}
+
+// Game by game, so that each guest's place is the one that a round of the game goes by.
+fn each_game(hall: Hall, clock: u64) {
+    let mut game: u8 = 0;
+    while game < 8 {
+        of_game(hall, game, clock);
+        game += 1;
+    }
+}
+
+// A game, unless nobody waits for it.
+fn of_game(hall: Hall, game: u8, clock: u64) {
     let bookings = hall.bookings;
-    let n = hall.waiting;
-    head(n);
-    waiters(bookings, n, clock);
+    let sizes = hall.sizes;
+    let queue = waiting::eligible(bookings, hall.waiting, game);
+    if queue.len == 0 {
+        return;
+    }
+    games::title(game, hall::games::sizes_of(sizes, game));
+    print::text(b"\n");
+    waiters(queue, clock);
 }
 
 // Who waits in a queue of the old counter.
@@ -50,52 +75,36 @@ pub fn old_queue(old: Queue, text: &[u8], heard: Heard) {
     let Clock::At(clock) = read else {
         return;
     };
-    head(old.len);
-    old_waiters(old, clock);
-}
-
-fn head(n: usize) {
-    if n == 0 {
+    if old.len == 0 {
         print::text(b"nobody waits\n");
         return;
     }
-    print::text(b"  place       guest      rating   party    role      waited\n");
+    waiters(old, clock);
 }
 
-// One booking's line.
-fn waiter(place: usize, booking: Booking, clock: u64) {
+// One entry's line.
+fn waiter(place: usize, entry: QueueEntry, clock: u64) {
     print::whole(place as u64, 7);
-    print::whole(booking.player, 12);
-    print::real(booking.rating, 2, 12);
-    print::whole(booking.party, 8);
-    print::whole(booking.role as u64, 8);
-    print::wait(queue::time::elapsed(clock, booking.joined), 12);
+    print::whole(entry.player, 12);
+    print::real(entry.rating, 2, 12);
+    print::whole(entry.party, 8);
+    print::whole(entry.role as u64, 8);
+    print::wait(queue::time::elapsed(clock, entry.joined), 12);
     print::text(b"\n");
 }
 
-fn waiters(bookings: [Booking; 64], n: usize, clock: u64) {
-    let mut i: usize = 0;
-    while i < 64 {
-        if n <= i {
-            return;
-        }
-        let booking = bookings[i];
-        waiter(i + 1, booking, clock);
-        i += 1;
-    }
-}
-
-// An entry's line is that of its booking.
-fn old_waiters(old: Queue, clock: u64) {
-    let queued = old.entries;
-    let n = old.len;
+// Everybody in a queue, in its order.
+fn waiters(waiting: Queue, clock: u64) {
+    let queued = waiting.entries;
+    let n = waiting.len;
+    print::text(b"  place       guest      rating   party    role      waited\n");
     let mut i: usize = 0;
     while i < 64 {
         if n <= i {
             return;
         }
         let entry = queued[i];
-        waiter(i + 1, entries::booking_of(entry), clock);
+        waiter(i + 1, entry, clock);
         i += 1;
     }
 }
@@ -175,17 +184,51 @@ fn accepted(notes: [Note; 1024], n: usize, kind: u8) -> u64 {
     count
 }
 
-pub fn totals(hall: Hall, seated: u64, text: &[u8], heard: Heard) {
+// Of all games, as the key book has it, and of each.
+pub fn totals(hall: Hall, tally: Tally, text: &[u8], heard: Heard) {
+    if !fields::end(text, heard, heard.behind()) {
+        return;
+    }
     let notes = hall.notes;
     let n = hall.noted;
-    if fields::end(text, heard, heard.behind()) {
-        sum(
-            accepted(notes, n, 0),
-            hall.waiting as u64,
-            accepted(notes, n, 1),
-            seated,
-        );
+    sum(
+        accepted(notes, n, 0),
+        hall.waiting as u64,
+        accepted(notes, n, 1),
+        tally.seated_in_all(),
+    );
+    each_total(hall, tally);
+}
+
+fn each_total(hall: Hall, tally: Tally) {
+    let mut game: u8 = 0;
+    while game < 8 {
+        total(hall, tally, game);
+        game += 1;
     }
+}
+
+// `game 1, 2+2: accepted ..`, unless the game is not used and nobody booked it.
+fn total(hall: Hall, tally: Tally, game: u8) {
+    let sizes = hall.sizes;
+    let bookings = hall.bookings;
+    let i = game as usize;
+    if 8 <= i {
+        return;
+    }
+    let booked = tally.accepted[i];
+    let own = hall::games::sizes_of(sizes, game);
+    if booked == 0 && !games::is_used(own) {
+        return;
+    }
+    games::title(game, own);
+    print::text(b": ");
+    sum(
+        booked,
+        waiting::count(bookings, hall.waiting, game) as u64,
+        tally.withdrawn[i],
+        tally.seated[i],
+    );
 }
 
 // `accepted 12 = waiting 3 + withdrawn 1 + seated 8: holds`

@@ -22,6 +22,12 @@ mod complaints;
 // What the desk keeps in the evening.
 mod desk;
 
+// What came of the bookings, game by game.
+mod tally;
+
+// The games of the evening.
+mod games;
+
 // The guests' roster rows.
 mod guests;
 
@@ -34,7 +40,7 @@ mod entries;
 // The commands, by the first word of a line.
 mod commands;
 
-// Greedy, beam and full rounds.
+// Greedy, beam and full rounds, and dispatches.
 mod rounds;
 
 // The tables that a round seats.
@@ -52,7 +58,7 @@ mod goals;
 // The queue, the key book and the totals.
 mod listing;
 
-// Document 01's refusals, in its words.
+// The refusals, in their words.
 mod refusals;
 
 // Numbers in columns.

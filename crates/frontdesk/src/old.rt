@@ -5,14 +5,17 @@ use crate::desk::Desk;
 use crate::entries;
 use crate::entries::Entered;
 use crate::fields;
+use crate::fields::Fields;
 use crate::guests::Roster;
 use crate::listing;
+use crate::numbers::Problem;
 use crate::print;
 use crate::refusals;
 use crate::rounds;
 use crate::rounds::Asked;
 use crate::tables;
 use crate::tables::Before;
+use crate::values;
 use crate::words;
 use crate::words::Heard;
 use base::Checked;
@@ -23,6 +26,7 @@ use greedy::GreedySearch;
 use queue::Enqueued;
 use queue::Queue;
 use seating::Formed;
+use seating::TeamComposition;
 
 // `old entry ..` and so on. The word behind `old` is heard as the command, so that complaints name it.
 pub fn serve(desk: Desk, text: &[u8], line: Heard) -> Desk {
@@ -49,15 +53,11 @@ fn listings(desk: Desk, text: &[u8], heard: Heard, name: &[u8]) {
         return;
     }
     if same(name, b"greedy") {
-        show(
-            desk,
-            Search::Greedy,
-            rounds::read(text, heard, rounds::TIMED),
-        );
+        show(desk, Search::Greedy, read(text, heard, rounds::TIMED));
         return;
     }
     if same(name, b"beam") {
-        show(desk, Search::Beam, rounds::read(text, heard, rounds::BEAM));
+        show(desk, Search::Beam, read(text, heard, rounds::BEAM));
         return;
     }
     complaints::word(
@@ -113,16 +113,51 @@ enum Search {
     Beam,
 }
 
+// The sizes that a search is asked for, and all else. An exported queue is of no game.
+struct Sought {
+    sizes: TeamComposition,
+    asked: Asked,
+}
+
+impl Sought {
+    fn of(sizes: TeamComposition, given: Fields) -> Sought {
+        Sought {
+            sizes: sizes,
+            asked: Asked::of(given),
+        }
+    }
+}
+
+// `5+5 at 120s ..`
+fn read(text: &[u8], heard: Heard, allowed: u32) -> Sought {
+    let word = words::next(text, heard.behind());
+    let read = values::sizes(words::bytes_of(text, word));
+    let sizes = TeamComposition {
+        a: read.a as usize,
+        b: read.b as usize,
+    };
+    let problem = read.problem;
+    let Problem::Nothing = problem else {
+        complaints::word(text, heard, b"team sizes such as 5+5", word);
+        return Sought::of(sizes, Fields::bad());
+    };
+    Sought::of(
+        sizes,
+        fields::read(text, heard, word.to, rounds::TIMED, allowed),
+    )
+}
+
 // The tables of a search. Nobody leaves the queue, so that it can be searched both ways.
-fn show(desk: Desk, search: Search, asked: Asked) {
+fn show(desk: Desk, search: Search, sought: Sought) {
+    let sizes = sought.sizes;
+    let asked = sought.asked;
     if !asked.ok {
         return;
     }
     let roster = desk.roster;
     let old = desk.old;
-    let sizes = asked.sizes;
     let mut players = [0u64; 64];
-    let formed = found(roster, old, search, asked, &mut players);
+    let formed = found(roster, old, search, sizes, asked, &mut players);
     let before = Before {
         waiting: old,
         roster: roster,
@@ -136,20 +171,32 @@ fn show(desk: Desk, search: Search, asked: Asked) {
     }
 }
 
-fn found(roster: Roster, old: Queue, search: Search, asked: Asked, players: &mut [u64]) -> Formed {
+fn found(
+    roster: Roster,
+    old: Queue,
+    search: Search,
+    sizes: TeamComposition,
+    asked: Asked,
+    players: &mut [u64],
+) -> Formed {
     match search {
-        Search::Greedy => greedy(roster, old, asked, players),
-        Search::Beam => beam(roster, old, asked, players),
+        Search::Greedy => greedy(roster, old, sizes, asked.clock, players),
+        Search::Beam => beam(roster, old, sizes, asked, players),
     }
 }
 
 // The greedy search with the roster's columns lent.
-fn greedy(roster: Roster, old: Queue, asked: Asked, players: &mut [u64]) -> Formed {
+fn greedy(
+    roster: Roster,
+    old: Queue,
+    sizes: TeamComposition,
+    clock: u64,
+    players: &mut [u64],
+) -> Formed {
     let ids = roster.ids;
     let ratings = roster.ratings;
     let n = counts::wholes(roster.rows, &ids);
     let m = counts::reals(roster.rows, &ratings);
-    let sizes = asked.sizes;
     let mut qualities = [0.0f64; 64];
     let formed = GreedySearch::search(
         old,
@@ -159,7 +206,7 @@ fn greedy(roster: Roster, old: Queue, asked: Asked, players: &mut [u64]) -> Form
         players,
         &mut qualities,
     );
-    timely(formed, asked.clock)
+    timely(formed, clock)
 }
 
 // The greedy search takes no clock, but the waits that are shown do: one above 2^53 is refused after all else, as in a round.
@@ -174,14 +221,19 @@ fn timely(formed: Formed, clock: u64) -> Formed {
 }
 
 // The beam search with the roster's columns lent.
-fn beam(roster: Roster, old: Queue, asked: Asked, players: &mut [u64]) -> Formed {
+fn beam(
+    roster: Roster,
+    old: Queue,
+    sizes: TeamComposition,
+    asked: Asked,
+    players: &mut [u64],
+) -> Formed {
     let ids = roster.ids;
     let ratings = roster.ratings;
     let deviations = roster.deviations;
     let n = counts::wholes(roster.rows, &ids);
     let m = counts::reals(roster.rows, &ratings);
     let k = counts::reals(roster.rows, &deviations);
-    let sizes = asked.sizes;
     let objective = asked.objective;
     let search = BeamSearch { width: asked.width };
     let mut qualities = [0.0f64; 64];

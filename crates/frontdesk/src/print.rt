@@ -48,6 +48,13 @@ pub fn whole(n: u64, width: usize) {
     right(&digits[..k], width);
 }
 
+// `2+1`
+pub fn sizes(a: usize, b: usize) {
+    io::print_decimal(1, a as u64);
+    text(b"+");
+    io::print_decimal(1, b as u64);
+}
+
 // A float as it is printed: its whole part and its digits behind the point.
 struct Printed {
     whole: u64,

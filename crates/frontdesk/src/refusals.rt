@@ -1,4 +1,4 @@
-// Document 01's refusals, by their numbers and in its words.
+// The refusals, by their numbers and in their words: those of document 01, and what each request added.
 use crate::print;
 use base::Refusal;
 
@@ -15,7 +15,7 @@ fn word(number: u8) {
     }
 }
 
-// The other six.
+// The others.
 fn later_word(number: u8) {
     match number {
         7 => print::text(b"key clash"),
@@ -23,7 +23,8 @@ fn later_word(number: u8) {
         9 => print::text(b"already waiting"),
         10 => print::text(b"hall full"),
         11 => print::text(b"not waiting"),
-        _ => print::text(b"no seats"),
+        12 => print::text(b"no seats"),
+        _ => print::text(b"no such game"),
     }
 }
 

@@ -303,9 +303,7 @@ fn list(rules: RoundRules) {
 
 fn list_sizes(sizes: TeamSizeConstraint) {
     print::text(b"rule sizes ");
-    io::print_decimal(1, sizes.a as u64);
-    print::text(b"+");
-    io::print_decimal(1, sizes.b as u64);
+    print::sizes(sizes.a, sizes.b);
     print::text(b"\n");
 }
 

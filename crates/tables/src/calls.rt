@@ -1,4 +1,4 @@
-// The five calls of a hall, what each brings, and how it is made.
+// The six calls of a hall, what each brings, and how it is made.
 use crate::rosters;
 use beam::BeamSearch;
 use capi::halls;
@@ -10,7 +10,6 @@ use hall::Hall;
 use objective::score::MatchObjective;
 use rosters::Roster;
 use seating::Formed;
-use seating::TeamComposition;
 
 pub const BOOKING: u8 = 0;
 
@@ -22,6 +21,8 @@ pub const BEAM: u8 = 3;
 
 pub const FULL: u8 = 4;
 
+pub const DISPATCH: u8 = 5;
+
 // What is wrong with what a round brings: nothing, too few ratings, short sheets, or a weight that is NaN.
 pub const SOUND: u8 = 0;
 
@@ -31,7 +32,7 @@ pub const SHORT_SHEETS: u8 = 2;
 
 pub const NO_WEIGHT: u8 = 3;
 
-// One of the five kinds. `time` is a booking's joined time and a round's clock.
+// One of the six kinds. `time` is a booking's joined time and a round's clock. A dispatch names no game.
 pub struct Call {
     pub kind: u8,
     pub key: u64,
@@ -39,17 +40,17 @@ pub struct Call {
     pub rating: f64,
     pub party: u64,
     pub time: u64,
-    pub a: usize,
-    pub b: usize,
+    pub game: u8,
     pub width: usize,
     pub fault: u8,
 }
 
-// What a call gives besides the hall and its sheets. Refusal 0 is none.
+// What a call gives besides the hall and its sheets. Refusal 0 is none. Only a dispatch serves a game, and 255 is none.
 pub struct Answer {
     pub refusal: u8,
     pub matches: usize,
     pub tried: u64,
+    pub served: u8,
 }
 
 pub struct Made {
@@ -59,6 +60,7 @@ pub struct Made {
 
 // ---- calls
 
+// For game 0.
 pub fn booking(key: u64, player: u64, rating: f64, joined: u64) -> Call {
     Call {
         kind: BOOKING,
@@ -67,8 +69,7 @@ pub fn booking(key: u64, player: u64, rating: f64, joined: u64) -> Call {
         rating: rating,
         party: 0,
         time: joined,
-        a: 0,
-        b: 0,
+        game: 0,
         width: 0,
         fault: SOUND,
     }
@@ -82,14 +83,13 @@ pub fn withdrawal(key: u64, player: u64) -> Call {
         rating: 0.0,
         party: 0,
         time: 0,
-        a: 0,
-        b: 0,
+        game: 0,
         width: 0,
         fault: SOUND,
     }
 }
 
-pub fn round(kind: u8, a: usize, b: usize, width: usize, clock: u64, fault: u8) -> Call {
+pub fn round(kind: u8, game: u8, width: usize, clock: u64, fault: u8) -> Call {
     Call {
         kind: kind,
         key: 0,
@@ -97,15 +97,26 @@ pub fn round(kind: u8, a: usize, b: usize, width: usize, clock: u64, fault: u8) 
         rating: 0.0,
         party: 0,
         time: clock,
-        a: a,
-        b: b,
+        game: game,
         width: width,
         fault: fault,
     }
 }
 
+pub fn dispatch(clock: u64, fault: u8) -> Call {
+    round(DISPATCH, 0, 0, clock, fault)
+}
+
 pub fn is_keyed(call: Call) -> bool {
     call.kind < GREEDY
+}
+
+// The game whose guests a round seats.
+pub fn game_of(call: Call, answer: Answer) -> u8 {
+    if call.kind == DISPATCH {
+        return answer.served;
+    }
+    call.game
 }
 
 // ---- answers
@@ -118,6 +129,7 @@ fn keyed(made: Keyed) -> Made {
             refusal: made.refusal,
             matches: 0,
             tried: 0,
+            served: 255,
         },
     }
 }
@@ -129,11 +141,13 @@ pub fn formed(given: Formed) -> Answer {
             refusal: 0,
             matches: matches,
             tried: 0,
+            served: 255,
         },
         Formed::Refused(refusal) => Answer {
             refusal: refusal.number(),
             matches: 0,
             tried: 0,
+            served: 255,
         },
     }
 }
@@ -152,6 +166,7 @@ pub fn handed(made: Rounded) -> Answer {
         refusal: made.refusal,
         matches: made.count,
         tried: made.tried,
+        served: made.served,
     }
 }
 
@@ -164,6 +179,7 @@ fn book(hall: Hall, call: Call) -> Made {
         rating: call.rating,
         party: call.party,
         role: 0,
+        game: call.game,
     };
     keyed(halls::yilgashe_hall_book(hall, call.key, booking))
 }
@@ -176,13 +192,9 @@ fn greedy(
     players: &mut [u64],
     qualities: &mut [f64],
 ) -> Made {
-    let sizes = TeamComposition {
-        a: call.a,
-        b: call.b,
-    };
     rounded(halls::yilgashe_hall_greedy_round(
         hall,
-        sizes,
+        call.game,
         call.time,
         ids,
         ratings,
@@ -208,10 +220,6 @@ fn beam(
     players: &mut [u64],
     qualities: &mut [f64],
 ) -> Made {
-    let sizes = TeamComposition {
-        a: call.a,
-        b: call.b,
-    };
     let objective = MatchObjective {
         quality: weight(call),
         wait: 0.5,
@@ -222,7 +230,7 @@ fn beam(
     rounded(halls::yilgashe_hall_beam_round(
         hall,
         search,
-        sizes,
+        call.game,
         objective,
         call.time,
         ids,
@@ -253,15 +261,11 @@ fn full(
     players: &mut [u64],
     qualities: &mut [f64],
 ) -> Made {
-    let sizes = TeamComposition {
-        a: call.a,
-        b: call.b,
-    };
     let parties_sit = call.width % 2 == 1;
     let friends_sit = 1 < call.width % 4;
     rounded(halls::yilgashe_hall_full_round(
         hall,
-        sizes,
+        call.game,
         rosters::rules(parties_sit, friends_sit),
         wait_and_skill(weight(call)),
         call.time,
@@ -273,6 +277,17 @@ fn full(
         players,
         qualities,
     ))
+}
+
+fn dispatched(
+    hall: Hall,
+    call: Call,
+    ids: &[u64; 128],
+    ratings: &[f64],
+    players: &mut [u64],
+    qualities: &mut [f64],
+) -> Made {
+    rounded(halls::yilgashe_hall_dispatch(hall, call.time, ids, ratings, players, qualities))
 }
 
 // A round by the roster's other columns. All are of no role and of no region.
@@ -291,6 +306,9 @@ fn round_by(
     let regions = [4u8; 128];
     if call.kind == GREEDY {
         return greedy(hall, call, &ids, ratings, players, qualities);
+    }
+    if call.kind == DISPATCH {
+        return dispatched(hall, call, &ids, ratings, players, qualities);
     }
     if call.kind == BEAM {
         return beam(hall, call, &ids, ratings, &deviations, players, qualities);

@@ -4,6 +4,7 @@ use calls::Answer;
 use hall::Booking;
 use hall::Hall;
 use hall::Note;
+use seating::TeamComposition;
 
 // What a place for a guest holds before a round; no guest has this number.
 pub const BLANK: u64 = 999999;
@@ -11,7 +12,10 @@ pub const BLANK: u64 = 999999;
 // ---- answers and sheets
 
 pub fn are_same(x: Answer, y: Answer) -> bool {
-    x.refusal == y.refusal && x.matches == y.matches && x.tried == y.tried
+    if x.refusal != y.refusal || x.served != y.served {
+        return false;
+    }
+    x.matches == y.matches && x.tried == y.tried
 }
 
 // Compared bit for bit, but NaNs are equal and both zeros are equal.
@@ -47,7 +51,7 @@ pub fn are_same_qualities(x: &[f64; 64], y: &[f64; 64]) -> bool {
 // ---- halls
 
 fn is_same_booking(x: Booking, y: Booking) -> bool {
-    if x.player != y.player || x.joined != y.joined {
+    if x.player != y.player || x.joined != y.joined || x.game != y.game {
         return false;
     }
     is_same_float(x.rating, y.rating) && x.party == y.party && x.role == y.role
@@ -104,8 +108,27 @@ fn is_same_log(x: Hall, y: Hall) -> bool {
     are_same_notes(notes, other_notes, x.noted)
 }
 
+fn are_same_sizes(x: [TeamComposition; 8], y: [TeamComposition; 8]) -> bool {
+    let mut i: usize = 0;
+    while i < 8 {
+        let own = x[i];
+        let other = y[i];
+        if own.a != other.a || own.b != other.b {
+            return false;
+        }
+        i += 1;
+    }
+    true
+}
+
+fn are_same_games(x: Hall, y: Hall) -> bool {
+    let sizes = x.sizes;
+    let other_sizes = y.sizes;
+    x.served == y.served && are_same_sizes(sizes, other_sizes)
+}
+
 pub fn is_same_hall(x: Hall, y: Hall) -> bool {
-    if x.waiting != y.waiting || x.noted != y.noted {
+    if x.waiting != y.waiting || x.noted != y.noted || !are_same_games(x, y) {
         return false;
     }
     let bookings = x.bookings;
@@ -154,23 +177,44 @@ fn sits(players: &[u64; 64], n: usize, player: u64) -> bool {
     false
 }
 
-// One place of the sheet: a seat is of someone who waited and sits at no earlier place; past the seats nothing is written.
-fn is_fair(before: Hall, players: &[u64; 64], seats: usize, place: usize, player: u64) -> bool {
+// Does the player wait for the game?
+fn waits_for(before: Hall, player: u64, game: u8) -> bool {
+    let bookings = before.bookings;
+    let n = before.waiting;
+    let mut i: usize = 0;
+    while i < 64 {
+        let booking = bookings[i];
+        if i < n && booking.player == player {
+            return booking.game == game;
+        }
+        i += 1;
+    }
+    false
+}
+
+// One place of the sheet: a seat is of someone who waited for the game and sits at no earlier place; past the seats nothing is written.
+fn is_fair(
+    before: Hall,
+    game: u8,
+    players: &[u64; 64],
+    seats: usize,
+    place: usize,
+    player: u64,
+) -> bool {
     if seats <= place {
         return player == BLANK;
     }
     if sits(players, place, player) {
         return false;
     }
-    let bookings = before.bookings;
-    hall::waiting::waits(bookings, before.waiting, player)
+    waits_for(before, player, game)
 }
 
 // Every place of the sheet.
-pub fn are_fair(before: Hall, players: &[u64; 64], seats: usize) -> bool {
+pub fn are_fair(before: Hall, game: u8, players: &[u64; 64], seats: usize) -> bool {
     let mut i: usize = 0;
     while i < 64 {
-        if !is_fair(before, players, seats, i, players[i]) {
+        if !is_fair(before, game, players, seats, i, players[i]) {
             return false;
         }
         i += 1;

@@ -2,23 +2,38 @@
 use crate::calls;
 use crate::rosters;
 use calls::Call;
+use capi::halls::Games;
+use seating::TeamComposition;
 
-// How long a list is, among how many guests and keys, and how many calls there are to a round.
+// How long a list is, among how many guests and keys, how many calls there are to a round, and how many games are drawn.
 pub struct Plan {
     pub calls: usize,
     pub guests: u64,
     pub keys: u64,
     pub rare: u64,
+    pub games: u64,
 }
 
-// Most lists have few guests and keys. Every fifth fills the hall, and every hundredth the key log.
+// Most lists have few guests and keys. Every fifth fills the hall, and every hundredth the key log. In every twentieth all games wait for
+// their turn.
 pub fn plan_of(list: u64) -> Plan {
+    let games = list / 5 % 8 + 1;
+    if list % 20 == 3 {
+        return Plan {
+            calls: 600,
+            guests: 60,
+            keys: 1000,
+            rare: 8,
+            games: 8,
+        };
+    }
     if list % 100 == 0 {
         return Plan {
             calls: 2000,
             guests: 30,
             keys: 100000,
             rare: 12,
+            games: games,
         };
     }
     if list % 5 == 0 {
@@ -26,14 +41,16 @@ pub fn plan_of(list: u64) -> Plan {
             calls: 300,
             guests: 120,
             keys: 1000,
-            rare: 100,
+            rare: 40,
+            games: games % 3 + 1,
         };
     }
     Plan {
         calls: 100,
-        guests: 9,
+        guests: 6 + 3 * games,
         keys: 60,
         rare: 4,
+        games: games,
     }
 }
 
@@ -66,15 +83,55 @@ fn time(word: u64) -> u64 {
     word % 7 * 1000000000
 }
 
-// The size of a team: 1 or 2, at times 0 or 9.
+// ---- games
+
+// The size of a team, from 0 to 3.
 fn size(word: u64) -> usize {
-    match word % 24 {
+    match word % 12 {
         0 => 0,
-        1 => 9,
-        2 | 3 | 4 | 5 | 6 | 7 | 8 => 2,
+        1 | 2 => 3,
+        3 | 4 | 5 | 6 => 2,
         _ => 1,
     }
 }
+
+// The sizes of a game. No list has calls at these places.
+fn sizes(list: u64, game: usize) -> TeamComposition {
+    let word = word(list, game % 8 + 4000);
+    TeamComposition {
+        a: size(word),
+        b: size(word / 16),
+    }
+}
+
+// The sizes of a list's games, the others not used. In every fortieth list a team has 9.
+pub fn games_of(list: u64) -> Games {
+    let plan = plan_of(list);
+    let mut drawn = [TeamComposition { a: 0, b: 0 }; 8];
+    let mut i: usize = 0;
+    while i < 8 {
+        if (i as u64) < plan.games {
+            drawn[i] = sizes(list, i);
+        }
+        i += 1;
+    }
+    if list % 40 == 7 {
+        drawn[3] = TeamComposition { a: 1, b: 9 };
+    }
+    Games { sizes: drawn }
+}
+
+// Mostly one of the games drawn, at times another, and at times none.
+fn game(word: u64, games: u64) -> u8 {
+    let any = word / 16;
+    match word % 16 {
+        0 => (any % 248 + 8) as u8,
+        1 => (any % 8) as u8,
+        _ => (below(any, games) % 256) as u8,
+    }
+}
+
+// ---- calls
 
 // At most 4, at times 33.
 fn width(word: u64) -> usize {
@@ -96,18 +153,20 @@ fn fault(word: u64) -> u8 {
     }
 }
 
-fn round(word: u64) -> Call {
+fn round(plan: Plan, word: u64) -> Call {
     let second = next(word);
     let third = next(second);
-    let kind = match word % 3 {
+    let kind = match word % 8 {
         0 => calls::GREEDY,
         1 => calls::BEAM,
-        _ => calls::FULL,
+        2 | 3 | 4 => calls::FULL,
+        _ => {
+            return calls::dispatch(time(third / 32), fault(third / 1024));
+        }
     };
     calls::round(
         kind,
-        size(second),
-        size(second / 32),
+        game(second, plan.games),
         width(third),
         time(third / 32),
         fault(third / 1024),
@@ -138,7 +197,9 @@ fn keyed(plan: Plan, word: u64) -> Call {
         rosters::rating(second / 1024),
         time(second / 8192),
     );
-    booking.party = party(next(second));
+    let third = next(second);
+    booking.party = party(third);
+    booking.game = game(third / 8, plan.games);
     booking
 }
 
@@ -146,7 +207,7 @@ fn fresh(list: u64, place: usize) -> Call {
     let plan = plan_of(list);
     let word = word(list, place);
     if below(next(word), plan.rare) == 0 {
-        return round(word);
+        return round(plan, word);
     }
     keyed(plan, word)
 }

@@ -222,19 +222,19 @@ fn vectors() {
 // ---- the hall
 
 // The hall after one call, which is written with its answer.
-fn told(hall: Hall, call: Call) -> Hall {
+pub fn told(hall: Hall, call: Call) -> Hall {
     let mut players = [0u64; 64];
     let mut qualities = [0.0f64; 64];
     let made = calls::make(hall, call, rosters::guests(), &mut players, &mut qualities);
     let after = made.hall;
-    story::tell(call, false, made.answer, &players, after.waiting);
+    story::tell(call, false, made.answer, &players, after);
     after
 }
 
 // Each of the later calls meets the hall that the first one left.
 fn bookings() {
     let hall = told(
-        halls::yilgashe_hall_empty(),
+        halls::yilgashe_hall_empty(story::games()),
         calls::booking(7, 1, 1000.0, 0),
     );
     told(hall, calls::booking(7, 1, 1000.0, 0));
@@ -249,12 +249,13 @@ fn booked(player: u64, rating: f64, party: u64) -> Booking {
         rating: rating,
         party: party,
         role: 0,
+        game: 0,
     }
 }
 
-// A hall where guests 1, 2 and 3 wait, the first two of them with this party.
-fn three_waiting(party: u64) -> Hall {
-    let mut hall = halls::yilgashe_hall_empty();
+// A hall where guests 1, 2 and 3 wait for game 0, which is 1+1, the first two of them with this party.
+pub fn three_waiting(party: u64) -> Hall {
+    let mut hall = halls::yilgashe_hall_empty(story::games());
     hall.bookings[0] = booked(1, 1000.0, party);
     hall.bookings[1] = booked(2, 1280.0, party);
     hall.bookings[2] = booked(3, 1010.0, 0);
@@ -271,7 +272,7 @@ fn by_wait() -> SoftObjectives {
     }
 }
 
-// The full round 1+1 by the wait objective only. The roster has guests 1 to 4, with these parties.
+// The full round of game 0 by the wait objective only. The roster has guests 1 to 4, with these parties.
 fn full_over(hall: Hall, rules: RoundRules, parties: &[u64; 4]) {
     let ids = [1u64, 2, 3, 4];
     let ratings = [1000.0f64, 1280.0, 1010.0, 1090.0];
@@ -279,10 +280,9 @@ fn full_over(hall: Hall, rules: RoundRules, parties: &[u64; 4]) {
     let regions = [4u8; 4];
     let mut players = [0u64; 64];
     let mut qualities = [0.0f64; 64];
-    let sizes = TeamComposition { a: 1, b: 1 };
     let rounded = halls::yilgashe_hall_full_round(
         hall,
-        sizes,
+        0,
         rules,
         by_wait(),
         0,
@@ -374,10 +374,10 @@ fn clock(nanos: u64) {
     beam_at(nanos, 1, 1, 1);
     told(
         three_waiting(0),
-        calls::round(calls::GREEDY, 1, 1, 0, nanos, calls::SOUND),
+        calls::round(calls::GREEDY, 0, 0, nanos, calls::SOUND),
     );
     told(
-        halls::yilgashe_hall_empty(),
+        halls::yilgashe_hall_empty(story::games()),
         calls::booking(1, 1, 1000.0, nanos),
     );
 }

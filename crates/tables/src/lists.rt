@@ -6,14 +6,17 @@ use crate::originals;
 use crate::rosters;
 use crate::story;
 use crate::tally;
+use crate::turns;
 use calls::Answer;
 use calls::Call;
 use capi::halls;
+use capi::halls::Games;
 use hall::Hall;
 use originals::Mark;
 use originals::Originals;
 use rosters::Roster;
 use tally::Tally;
+use turns::Turns;
 
 // The two halls, and what the list comes to so far. A told list is written call by call.
 pub struct Run {
@@ -23,18 +26,20 @@ pub struct Run {
     pub accepted: u64,
     pub withdrawn: u64,
     pub seated: u64,
+    pub turns: Turns,
     pub told: bool,
     pub tally: Tally,
 }
 
-fn start(told: bool, tally: Tally) -> Run {
+fn start(told: bool, games: Games, tally: Tally) -> Run {
     Run {
-        whole: halls::yilgashe_hall_empty(),
-        thinned: halls::yilgashe_hall_empty(),
+        whole: halls::yilgashe_hall_empty(games),
+        thinned: halls::yilgashe_hall_empty(games),
         originals: originals::none(),
         accepted: 0,
         withdrawn: 0,
         seated: 0,
+        turns: turns::none(),
         told: told,
         tally: tally,
     }
@@ -46,15 +51,17 @@ struct Stepped {
     answer: Answer,
 }
 
-// The seats of a round's matches.
-fn seats(call: Call, answer: Answer) -> usize {
-    check::seats(answer.matches, std::num::wrapping_add_usize(call.a, call.b))
+// The seats of so many matches of a game.
+fn seats(hall: Hall, game: u8, matches: usize) -> usize {
+    let sizes = hall.sizes;
+    let own = hall::games::sizes_of(sizes, game);
+    check::seats(matches, std::num::wrapping_add_usize(own.a, own.b))
 }
 
 fn tell(run: Run, call: Call, resend: bool, answer: Answer, players: &[u64; 64]) {
     if run.told {
         let hall = run.whole;
-        story::tell(call, resend, answer, players, hall.waiting);
+        story::tell(call, resend, answer, players, hall);
     }
 }
 
@@ -135,10 +142,30 @@ impl Run {
         run.whole = after;
         tell(run, call, false, answer, players);
         let counted = run.counted(answer, check::written(players));
+        let game = calls::game_of(call, answer);
+        let places = seats(before, game, answer.matches);
+        let seated = counted.checked(check::are_fair(before, game, players, places));
         Stepped {
-            run: counted.checked(check::are_fair(before, players, seats(call, answer))),
+            run: seated.dispatched(call, answer, before),
             answer: answer,
         }
+    }
+
+    // After a dispatch that was not refused: it was the game's turn, and no game was passed over eight times in a row.
+    fn dispatched(self, call: Call, answer: Answer, before: Hall) -> Run {
+        if call.kind != calls::DISPATCH || answer.refusal != 0 {
+            return self;
+        }
+        let after = self.whole;
+        let turns = self.turns;
+        let tally = self.tally;
+        let next = turns.after(before, answer.served);
+        let more = tally.dispatched(answer.served, next.longest());
+        let mut run = self;
+        run.turns = next;
+        run.tally = more;
+        let due = run.checked(turns::is_due(before, after, answer.served));
+        due.checked(next.longest() < 8)
     }
 
     // The call in the list without resends.
@@ -223,10 +250,17 @@ fn len(list: u64) -> usize {
     plan.calls
 }
 
+fn games(list: u64) -> Games {
+    if list == 0 {
+        return story::games();
+    }
+    draw::games_of(list)
+}
+
 // All calls of a list, on top of what was counted before.
 pub fn make(list: u64, before: Tally) -> Tally {
     let roster = rosters::guests();
-    let mut run = start(list == 0, before.listed());
+    let mut run = start(list == 0, games(list), before.listed());
     let n = len(list);
     let mut i: usize = 0;
     while i < n {

@@ -1,5 +1,5 @@
-// The lines of document 01's table and of 2.3, a list of calls that is told call by call, and drawn lists of calls: the program says what
-// the proved functions answer to them, and how many checks of the answers fail.
+// The lines of document 01's table, of 2.3 and of 2.4, a list of calls that is told call by call, and drawn lists of calls: the program
+// says what the proved functions answer to them, and how many checks of the answers fail.
 
 // What is written.
 mod text;
@@ -7,17 +7,23 @@ mod text;
 // Rosters, and what a full round brings.
 mod rosters;
 
-// The five calls of a hall.
+// The six calls of a hall.
 mod calls;
 
 // The lines of the table.
 mod lines;
+
+// The lines of several games.
+mod games;
 
 // Originals and resends.
 mod originals;
 
 // What is checked.
 mod check;
+
+// What is checked of dispatches.
+mod turns;
 
 // What is counted.
 mod tally;
@@ -33,6 +39,7 @@ mod lists;
 
 fn main() {
     lines::all();
+    games::all();
     let story = lists::make(0, tally::empty());
     text::say(b"the list above: ");
     tally::report(story);

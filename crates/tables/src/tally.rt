@@ -1,6 +1,7 @@
 // What is counted over all lists.
 ghost use Prim.Native.Nat.{_<_};
 use crate::text;
+use crate::turns;
 
 pub struct Tally {
     pub lists: u64,
@@ -8,6 +9,11 @@ pub struct Tally {
     pub resends: u64,
     pub matches: u64,
     pub seated: u64,
+    // Dispatches that served a game, and those that found none with enough.
+    pub served: u64,
+    pub idle: u64,
+    // How often in a row a game with enough was passed over, at most.
+    pub passed: u64,
     pub refusals: [u64; 16],
     pub checks: u64,
     pub failed: u64,
@@ -20,6 +26,9 @@ pub fn empty() -> Tally {
         resends: 0,
         matches: 0,
         seated: 0,
+        served: 0,
+        idle: 0,
+        passed: 0,
         refusals: [0u64; 16],
         checks: 0,
         failed: 0,
@@ -73,6 +82,18 @@ impl Tally {
         tally
     }
 
+    // One more dispatch, after which the game longest without a turn was passed over so often.
+    pub fn dispatched(self, served: u8, passed: u64) -> Tally {
+        let mut tally = self;
+        tally.passed = turns::greater(self.passed, passed);
+        if served < 8 {
+            tally.served = add(self.served, 1);
+        } else {
+            tally.idle = add(self.idle, 1);
+        }
+        tally
+    }
+
     // One more check, and one more that failed unless it holds.
     pub fn checked(self, holds: bool) -> Tally {
         let mut tally = self;
@@ -109,7 +130,10 @@ pub fn report(tally: Tally) {
     report_one(tally.calls, b" calls, ");
     report_one(tally.resends, b" resends, ");
     report_one(tally.matches, b" matches, ");
-    report_one(tally.seated, b" seated");
+    report_one(tally.seated, b" seated, ");
+    report_one(tally.served, b" dispatches to a game, ");
+    report_one(tally.idle, b" to none, a game passed over at most ");
+    report_one(tally.passed, b" times in a row");
     let refusals = tally.refusals;
     report_refusals(refusals);
     text::say(b"; ");

@@ -45,6 +45,14 @@ pub fn sizes(a: usize, b: usize) {
     number(b as u64);
 }
 
+// `game 1, 2+1`
+pub fn game(number_of: u8, a: usize, b: usize) {
+    say(b"game ");
+    number(number_of as u64);
+    say(b", ");
+    sizes(a, b);
+}
+
 pub fn refusal(n: u8) {
     if n == 0 {
         say(b"accepted");

@@ -5,10 +5,16 @@ use Rattle.frontdesk.proofs.listing.waiters.Statement.{statement}
 use Rattle.frontdesk.proofs.listing.waiters.Tie as tie
 
 abbrev Inv-loop : tie.InvT-loop
-Inv-loop bookings n clock i₀ i = Unit {0}
+Inv-loop clock queued n i₀ i = Unit {0}
 
 abbrev μ-loop : tie.MeasureT-loop
-μ-loop bookings n clock i₀ i = 64 - i
+μ-loop clock queued n i₀ i = 64 - i
+
+slice-aggregate-text : tie.Need-slice-aggregate-text Inv-loop μ-loop
+slice-aggregate-text c = search needs
+
+text-requires : tie.Need-text-requires Inv-loop μ-loop
+text-requires c κs = search needs
 
 loop-holds : tie.Need-loop-holds Inv-loop μ-loop
 loop-holds c = tt
@@ -16,11 +22,11 @@ loop-holds c = tt
 returns : tie.Need-returns Inv-loop μ-loop
 returns c = search needs
 
-mul-booking : tie.Need-mul-booking Inv-loop μ-loop
-mul-booking c = search needs
+mul-entry : tie.Need-mul-entry Inv-loop μ-loop
+mul-entry c = search needs
 
-array-copy-out-booking : tie.Need-array-copy-out-booking Inv-loop μ-loop
-array-copy-out-booking c = search needs
+array-copy-out-entry : tie.Need-array-copy-out-entry Inv-loop μ-loop
+array-copy-out-entry c = search needs
 
 add-waiter : tie.Need-add-waiter Inv-loop μ-loop
 add-waiter c = search needs
@@ -46,10 +52,12 @@ waiters-spec =
     (tie.spec
     Inv-loop
     μ-loop
+    slice-aggregate-text
+    text-requires
     loop-holds
     returns
-    mul-booking
-    array-copy-out-booking
+    mul-entry
+    array-copy-out-entry
     add-waiter
     waiter-requires
     add-i

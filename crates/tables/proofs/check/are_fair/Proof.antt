@@ -5,10 +5,10 @@ use Rattle.tables.proofs.check.are_fair.Statement.{statement}
 use Rattle.tables.proofs.check.are_fair.Tie as tie
 
 abbrev Inv-loop : tie.InvT-loop
-Inv-loop before players seats i₀ i = Unit {0}
+Inv-loop before game players seats i₀ i = Unit {0}
 
 abbrev μ-loop : tie.MeasureT-loop
-μ-loop before players seats i₀ i = 64 - i
+μ-loop before game players seats i₀ i = 64 - i
 
 loop-holds : tie.Need-loop-holds Inv-loop μ-loop
 loop-holds c = tt

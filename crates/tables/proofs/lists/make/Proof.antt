@@ -13,6 +13,9 @@ abbrev μ-loop : tie.MeasureT-loop
 guests-requires : tie.Need-guests-requires Inv-loop μ-loop
 guests-requires c κs = search needs
 
+games-requires : tie.Need-games-requires Inv-loop μ-loop
+games-requires c κs = search needs
+
 listed-requires : tie.Need-listed-requires Inv-loop μ-loop
 listed-requires c κs = search needs
 
@@ -53,6 +56,7 @@ make-spec =
     Inv-loop
     μ-loop
     guests-requires
+    games-requires
     listed-requires
     start-requires
     len-requires
