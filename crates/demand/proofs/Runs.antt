@@ -6,6 +6,7 @@ use Rattle.hall.specs.Hall.{HallState, Turn, empty}
 use Rattle.demand.specs.Calls.{Call, Answer, answered, Step, rounded, step, after, answers}
 use Rattle.demand.specs.Runs.{Met, keyed-met, round-met, no-kind-met, Run, ended, called, Told, Kept}
 use Rattle.demand.proofs.Resend.{after-append}
+use Rattle.demand.proofs.Fair.{fair}
 use Rattle.demand.proofs.Demand.{answers-append, demand3}
 
 -- what a call that met its promise gives is its step
@@ -36,6 +37,6 @@ told-on h k l cs ds rs ts a b =
       left = b .left ∙ ap (λ (o : HallState). after o ds) (a .left) ∙ sym (after-append h cs ds);
     }
 
--- demand 3 of every run from an empty hall
+-- demand 3 and fairness of every run from an empty hall
 pub demand3-of-runs : (sizes : List TeamComposition) (calls : List Call) (rs : List Answer) (l : HallState) → Run (empty sizes) calls rs l → Kept sizes calls rs l
-demand3-of-runs sizes calls rs l r = record { told = run-told (empty sizes) calls rs l r; demand = demand3 sizes calls }
+demand3-of-runs sizes calls rs l r = record { told = run-told (empty sizes) calls rs l r; demand = demand3 sizes calls; fair = λ pre post g e. fair sizes pre post g }

@@ -1,13 +1,14 @@
 -- A run: calls served one after another, each by a function that kept its promise, on the hall that the one before returned.
-use Prim.Native.Nat.{ℕ}
+use Prim.Native.Nat.{ℕ, _<_}
 use mathlib.Core.Path.{_≡_}
-use mathlib.Core.List.{List, [], _∷_}
+use mathlib.Core.List.{List, [], _∷_, _++_}
 use Rattle.seating.specs.declared.TeamComposition.{TeamComposition}
 use Rattle.seating.specs.Seating.{Sheets}
 use Rattle.hall.specs.Hall.{HallState, empty, Deed, Turn, keyedRule}
 use Rattle.hall.specs.Rounds.{RoundCall, RoundTurn, roundRule}
 use Rattle.demand.specs.Calls.{Call, keyed, round, no-kind, noKindRefusal, Answer, answered, rounded, turnedAway, after, answers}
 use Rattle.demand.specs.Demand.{Demand3}
+use Rattle.demand.specs.Fair.{Fair}
 
 -- one call that met its promise: the hall that it got, the hall that it returned, and its answer
 pub data Met : HallState → Call → Answer → HallState → Type 0 where
@@ -29,3 +30,5 @@ pub record Told (h : HallState) (cs : List Call) (rs : List Answer) (l : HallSta
 pub record Kept (sizes : List TeamComposition) (calls : List Call) (rs : List Answer) (l : HallState) : Type 0 where
   pub told : Told (empty sizes) calls rs l
   pub demand : Demand3 sizes calls
+  -- and wherever it is cut in two, each game has its turns in the second part
+  pub fair : (pre post : List Call) (g : ℕ) → calls ≡ pre ++ post → g < 8 → Fair (after (empty sizes) pre) post g

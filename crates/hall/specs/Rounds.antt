@@ -141,6 +141,7 @@ abbrev pub namesNoGame : Round → Bool
 namesNoGame (of-game g m) = isNoGame g
 namesNoGame (dispatch r) = false
 
+-- then the hall's own 1
 abbrev pub hallCheck : Bool → Bool → Outcome (Unit {0})
 hallCheck unknown over = cond unknown (refused 13) (cond over (refused 1) (gives tt))
 
