@@ -139,9 +139,9 @@ module _ (hall : Hall) (g : ℕ) (m : Method) (clock : ℕ) (players : List ℕ)
 -- ---- a dispatch
 
 -- the game that it served is its own, and none where it was refused
-serves : (quality : MatchState → Float) (s : Sheets) (o : Outcome Found) (game : ℕ) (x : Option ℕ) → gameIn game ≡ x → (refusal count : ℕ) → outcomeIn refusal count ≡ handedOut quality (matchesIn o) s .answer → gameIn (cond (eqb refusal 0) game noGame) ≡ servedIn x o
+serves : (quality : MatchState → Float) (s : Sheets) (o : Outcome Found) (game : ℕ) (x : Option ℕ) → gameIn game ≡ x → (refusal count : ℕ) → outcomeIn refusal count ≡ handedOut quality (matchesIn o) s .answer → gameIn (valueOr noGame (outcomeIn refusal game)) ≡ servedIn x o
 serves quality s (refused n) game x e zero count f = never cc
-serves quality s (refused n) game x e (suc i) count f = rw (ne-eqb (suc i) 0 (λ z. omega (arith, z)))
+serves quality s (refused n) game x e (suc i) count f = refl
 serves quality s (gives y) game x e zero count f = e
 serves quality s (gives y) game x e (suc i) count f = never cc
 
@@ -156,7 +156,7 @@ module _ (hall : Hall) (r : Roster) (clock : ℕ) (players : List ℕ) (qualitie
   -- within them: what the greedy round of the next game found, those who stay, and that game
   pub dispatch-told : o ≡ false → length (hall .bookings) ≡ 64 → length (hall .sizes) ≡ 8 → (game : ℕ) → gameIn game ≡ nextGame (enough (hall .sizes) (take (hall .waiting) (hall .bookings))) (hall .served) →
       {s : TeamComposition} → s ≡ sizesFor (hall .sizes) game → (x : Handed) {ps : List ℕ} {qs : List Float} → FoundNumbers (greedy r) clock (sheets players qualities) s game (take (hall .waiting) (hall .bookings)) x ps qs →
-      (n : ℕ) → n ≡ cond (eqb (x .refusal) 0) game noGame →
+      (n : ℕ) → n ≡ valueOr noGame (outcomeIn (x .refusal) game) →
       (out : Hall) → waitsWith (out .waiting) (out .bookings) ≡ awaiting (withoutGuests (take (x .seats) ps) (take (hall .waiting) (hall .bookings))) → hallOf out .log ≡ hallOf hall .log → out .sizes ≡ hall .sizes → out .served ≡ Option·getD (gameIn n) (hall .served) →
       RoundNumbers (roundRule (hallOf hall) dispatching) (record { hall = out; count = x .count; tried = x .tried; served = n; refusal = x .refusal }) ps qs
   dispatch-told t long wide game next {s} e x {ps} {qs} f n g out stays log same last =

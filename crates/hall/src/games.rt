@@ -1,10 +1,9 @@
 // The games under one roof: which sizes they have, and whose turn it is when a table is dispatched.
 ghost use mathlib.Core.Path.{_≡_};
-ghost use mathlib.Core.Bool.{cond};
 ghost use mathlib.Core.Option.{Option·getD};
-ghost use lib.Dec.{eqb};
 ghost use lib.ListN.{take};
 ghost use Rattle.base.specs.Lists.{any};
+ghost use Rattle.base.specs.Numbers.{valueOr, outcomeIn};
 ghost use Rattle.seating.specs.Seating.{sizesOver};
 ghost use Rattle.hall.specs.Games.{noGame, gameIn, sizesFor, gamesOver, enoughFor, enough, nextGame};
 use crate::Booking;
@@ -49,7 +48,8 @@ pub fn sizes_of(sizes: [TeamComposition; 8], game: u8) -> TeamComposition
     sizes[game as usize]
 }
 
-// Do so many seat a match, and does a match seat anybody? Whatever the sizes are: their sum may be no number.
+// Do so many fill a match, and does a match seat anybody? Sizes that are handed in may add up to more than a number holds, so they are not
+// added.
 fn is_enough(sizes: TeamComposition, waiting: usize) -> bool
     ensures { λ r. ⌜ r ≡ enoughFor sizes waiting ⌝ }
 {
@@ -89,7 +89,7 @@ pub fn next(bookings: [Booking; 64], n: usize, sizes: [TeamComposition; 8], last
 
 // The game that a dispatch served: its own, and none where it was refused.
 pub fn served(game: u8, refusal: u8) -> u8
-    ensures { λ r. ⌜ r ≡ cond (eqb refusal 0) game noGame ⌝ }
+    ensures { λ r. ⌜ r ≡ valueOr noGame (outcomeIn refusal game) ⌝ }
 {
     if refusal == 0 {
         return game;
