@@ -22,6 +22,7 @@ use Rattle.constraint.specs.declared.Constraints as whole
 use Rattle.seating.specs.declared.TeamComposition.{TeamComposition}
 use Rattle.seating.specs.Seating.{Sheets, HandedOut, seats, handedOut}
 use Rattle.choice.specs.Full.{Terms, terms}
+use Rattle.hall.proofs.Found.{hall-passes}
 use Rattle.hall.proofs.RoundLaws.{greedy-of-none}
 use Rattle.hall.proofs.Turns.{within}
 use Rattle.hall.proofs.WaitLaws.{stand}
@@ -64,16 +65,11 @@ counted quality (gives f) s = refl
 stated : (bs : List Booking) (k n : ℕ) (sizes : List TeamComposition) (last : ℕ) → length bs ≡ 64 → overLimits k n sizes last ≡ false → _≡_ {A = WaitState} (waitsWith k bs) (awaiting (take k bs))
 stated bs k n sizes last long under = stand bs k (take k bs) (omega (arith, within k n sizes last refl under .0)) refl
 
--- the check of the hall passes where the hall is within its limits
-passes-within : (unknown over : Bool) → hallCheck unknown over ≡ gives tt → over ≡ false
-passes-within true over e = never cc
-passes-within false true e = never cc
-passes-within false false e = refl
-
 -- a round that is refused before its own checks, and changes nothing
 abbrev pub away : Hall → ℕ → Rounded
 away hall n = record { hall = hall; count = 0; tried = 0; served = noGame; refusal = n }
 
+-- what its numbers tell
 refused-with : (hall : Hall) (s : Sheets) {n : ℕ} → eqb n 0 ≡ false → roundIn (away hall n) (s .players) (s .qualities) ≡ turnedAway (hallOf hall) s n
 refused-with hall s {n} e =
     ap (λ (v : Outcome ℕ). record { hall = hallOf hall; handed = record { answer = v; sheets = s }; tried = 0; served = none }) (number-refuses {A = ℕ} n 0 e)
@@ -100,7 +96,7 @@ module _ (hall : Hall) (c : RoundCall) where
       RoundNumbers (roundRule h c) (record { hall = out; count = r .count; tried = r .tried; served = n; refusal = r .refusal }) ps qs
   round-told passed long r {ps} {qs} f n named out stays log same last =
       let behind : roundFound h c ≡ found = rw passed in
-      let row = stated (hall .bookings) (hall .waiting) (hall .noted) (hall .sizes) (hall .served) long (passes-within (namesNoGame (c .round)) (isOver h) passed) in
+      let row = stated (hall .bookings) (hall .waiting) (hall .noted) (hall .sizes) (hall .served) long (hall-passes (namesNoGame (c .round)) (isOver h) (sym passed) .1) in
       let w : waitsWith (out .waiting) (out .bookings) ≡ awaiting (withoutGuests (seats (matchesFrom found)) ws) = stays ∙ ap (λ (ps : List ℕ). awaiting (withoutGuests ps ws)) (f .seated) in
       let l : out .served ≡ Option·getD (servedIn (servedBy h (c .round)) found) (hall .served) = last ∙ ap (λ (x : Option ℕ). Option·getD x (hall .served)) named in
       let left : hallOf out ≡ departing h (servedBy h (c .round)) found = (λ j. record { waiting = waitsWith (out .waiting) (out .bookings); log = log j; sizes = same j; served = out .served }) ∙ left-by h row (servedBy h (c .round)) found w l in
@@ -173,11 +169,6 @@ refusal-alike true over f = cc
 refusal-alike false true f = cc
 refusal-alike false false f = never cc
 
--- where the hall refuses nothing, the game is one
-game-known : (unknown over : Bool) → gives tt ≡ hallCheck unknown over → unknown ≡ false
-game-known true over f = never cc
-game-known false over f = refl
-
 module _ (hall : Hall) (g : ℕ) (rules : RoundRules) (o : SoftObjectives) (clock : ℕ) (roster : Roster) (players : List ℕ) (qualities : List Float) where
   -- the call that an exported full round stands for, and its terms
   abbrev call : RoundCall
@@ -207,7 +198,7 @@ module _ (hall : Hall) (g : ℕ) (rules : RoundRules) (o : SoftObjectives) (cloc
 
     -- neither, and a listed code is none
     pub no-kind-told : n ≡ 0 → any isNoKind (take (o .len) (o .kinds)) ≡ true → Full (away hall 1) players qualities
-    no-kind-told z b = turned refl (rw (game-known (isNoGame g) over (sym (number-accepts n (tt {0}) z) ∙ answered))) b
+    no-kind-told z b = turned refl (rw (hall-passes (isNoGame g) over (sym (number-accepts n (tt {0}) z) ∙ answered) .0)) b
 
   -- the round of the constraints and the objectives that the numbers tell
   pub terms-told : {all : whole.Constraints} {softs : List SoftObjective} (s : TeamComposition) (ws : List Booking) → all ≡ constraintsOf (rules .constraints) → softs ≡ softsOf (o .kinds) (o .weights) → {r : Handed} {ps : List ℕ} {qs : List Float} →

@@ -1,11 +1,10 @@
 -- Demand 3: one statement over every list of calls from an empty hall.
 use Prim.Native.Nat.{ℕ, _+_, _≤_, _<_}
 use mathlib.Core.Path.{_≡_}
-use mathlib.Core.Bool.{Bool, false, not, _&&_}
+use mathlib.Core.Bool.{Bool, false}
 use mathlib.Core.Logic.{_↔_}
 use mathlib.Core.List.{List, [], _∷_, _++_, map}
 use mathlib.Core.Option.{none, some}
-use lib.Dec.{eqb}
 use lib.ListN.{length}
 use Rattle.base.specs.Refusals.{Outcome, refused, gives}
 use Rattle.base.specs.Lists.{member, Distinct}
@@ -13,7 +12,7 @@ use Rattle.seating.specs.declared.TeamComposition.{TeamComposition}
 use Rattle.seating.specs.Seating.{Sheets}
 use Rattle.seating.specs.Seats.{Seating}
 use Rattle.choice.specs.Full.{Terms}
-use Rattle.hall.specs.Games.{isNoGame, noGame, sizesFor, eligible}
+use Rattle.hall.specs.Games.{noLastGame, sizesFor, eligible}
 use Rattle.hall.specs.Hall.{HallState, awaiting, entryOf, KeyRecord, logging, empty, Deed}
 use Rattle.hall.specs.Rounds.{RoundCall, full, of-game, gameOf, sizesIn, entriesIn, FullRound}
 use Rattle.demand.specs.Calls.{Call, keyed, round, no-kind, noKindRefusal, kindOf, playerOf, Answer, answered, handed, step, after, answers, mark, original, resend, originals, leave, thin, keysOf, different, matchesHanded, acceptedIn, withdrawnIn, seatedIn, replay}
@@ -31,7 +30,7 @@ pub record Orderly (h : HallState) : Type 0 where
   pub few : length (h .waiting .bookings) ≤ 64
   pub noted : length (h .log .records) ≤ 1024
   -- the last game served is 0 to 7, or none
-  pub last : (isNoGame (h .served) && not (eqb (h .served) noGame)) ≡ false
+  pub last : noLastGame (h .served) ≡ false
 
 -- ---- originals and resends
 

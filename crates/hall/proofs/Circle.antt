@@ -9,7 +9,7 @@ use native.Mathlib.Omega.{arith}
 use lib.Dec.{eqb}
 use lib.ListN.{getD}
 use borrow.Author.Tests.{eqb-true, eqb-false}
-use Rattle.base.specs.Lists.{seek, All}
+use Rattle.base.specs.Lists.{seek, All, placesFrom}
 use Rattle.base.proofs.Cases.{cases, never}
 use Rattle.hall.specs.Games.{turnAt, circle, nextGame}
 
@@ -20,7 +20,7 @@ the-same : {x y : ℕ} → some x ≡ some y → x ≡ y
 the-same e = cc
 
 -- x is the first in the list that p holds of
-pub record Foremost (p : ℕ → Bool) (xs : List ℕ) (x : ℕ) : Type 0 where
+pub record FirstReady (p : ℕ → Bool) (xs : List ℕ) (x : ℕ) : Type 0 where
   pub before : List ℕ
   pub behind : List ℕ
   pub order : xs ≡ before ++ (x ∷ behind)
@@ -28,27 +28,27 @@ pub record Foremost (p : ℕ → Bool) (xs : List ℕ) (x : ℕ) : Type 0 where
   pub holds : p x ≡ true
 
 -- the one that is found is the first
-seek-foremost : (p : ℕ → Bool) (xs : List ℕ) (x : ℕ) → seek p some none xs ≡ some x → Foremost p xs x
+seek-first : (p : ℕ → Bool) (xs : List ℕ) (x : ℕ) → seek p some none xs ≡ some x → FirstReady p xs x
 unfolding seek
-seek-foremost p [] x e = never cc
-seek-foremost p (y ∷ ys) x e =
+seek-first p [] x e = never cc
+seek-first p (y ∷ ys) x e =
     cases (p y)
     (λ t. let z : some y ≡ some x = rw t at e in let q : y ≡ x = cc in
     record { before = []; behind = ys; order = ap (λ (n : ℕ). n ∷ ys) q; passed = tt; holds = ap p (sym q) ∙ t })
-    (λ f. let i : Foremost p ys x = seek-foremost p ys x (rw f at e) in
+    (λ f. let i : FirstReady p ys x = seek-first p ys x (rw f at e) in
     record { before = y ∷ i .before; behind = i .behind; order = ap (λ (l : List ℕ). y ∷ l) (i .order); passed = (f, i .passed); holds = i .holds })
 
 -- the first is the one that is found
-foremost-seek : (p : ℕ → Bool) (before behind : List ℕ) (x : ℕ) → All (λ y. p y ≡ false) before → p x ≡ true → seek p some none (before ++ (x ∷ behind)) ≡ some x
+first-seek : (p : ℕ → Bool) (before behind : List ℕ) (x : ℕ) → All (λ y. p y ≡ false) before → p x ≡ true → seek p some none (before ++ (x ∷ behind)) ≡ some x
 unfolding seek
-foremost-seek p [] behind x a t = rw t
-foremost-seek p (y ∷ ys) behind x a t = rw (a .0) (foremost-seek p ys behind x (a .1) t)
+first-seek p [] behind x a t = rw t
+first-seek p (y ∷ ys) behind x a t = rw (a .0) (first-seek p ys behind x (a .1) t)
 
 -- a game is next exactly where it is ready and no game before it in the circle is
-pub next-iff : (ready : ℕ → Bool) (last g : ℕ) → (nextGame ready last ≡ some g) ↔ Foremost ready (circle last) g
+pub next-iff : (ready : ℕ → Bool) (last g : ℕ) → (nextGame ready last ≡ some g) ↔ FirstReady ready (circle last) g
 next-iff ready last g = (
-  seek-foremost ready (circle last) g,
-  λ f. ap (seek ready some none) (f .order) ∙ foremost-seek ready (f .before) (f .behind) g (f .passed) (f .holds),
+  seek-first ready (circle last) g,
+  λ f. ap (seek ready some none) (f .order) ∙ first-seek ready (f .before) (f .behind) g (f .passed) (f .holds),
 )
 
 -- the next game is one of 0 to 7
@@ -95,21 +95,16 @@ ahead-less last g i h l a b = omega arith
 
 -- ---- the next game is game g, or is nearer to it
 
--- the numbers from k on, n of them
-upFrom : ℕ → ℕ → List ℕ
-upFrom k zero = []
-upFrom k (suc n) = k ∷ upFrom (suc k) n
-
 -- a place from k to j, whose game is the one that is found
 record Reached (ready : ℕ → Bool) (last k n j : ℕ) : Type 0 where
   at : ℕ
   low : k ≤ at
   high : at ≤ j
-  found : seek ready some none (map (turnAt last) (upFrom k n)) ≡ some (turnAt last at)
+  found : seek ready some none (map (turnAt last) (placesFrom k n)) ≡ some (turnAt last at)
 
 -- where the game at place j is ready, one is found, and not behind it
 reach : (ready : ℕ → Bool) (last n k j : ℕ) → k ≤ j → j < k + n → ready (turnAt last j) ≡ true → Reached ready last k n j
-unfolding seek upFrom
+unfolding seek placesFrom
 reach ready last zero k j l h t = absurd (omega arith)
 reach ready last (suc n) k j l h t =
     cases (ready (turnAt last k)) (λ u. record { at = k; low = omega arith; high = l; found = rw u })
@@ -125,12 +120,12 @@ module _ (ready : ℕ → Bool) (last g : ℕ) (h : g < 8) (l : last ≤ 255) (t
 
   -- while game g is ready, some game is next
   pub some-next : (x : ℕ) × (nextGame ready last ≡ some x)
-  unfolding upFrom
+  unfolding placesFrom
   some-next = (turnAt last (in-reach .at), in-reach .found)
 
   -- while game g is ready, another game that is next is nearer to it than the last one was
   pub nearer : (x : ℕ) → nextGame ready last ≡ some x → eqb x g ≡ false → ahead x g < ahead last g
-  unfolding upFrom
+  unfolding placesFrom
   nearer x e f = subst (λ (n : ℕ). ahead n g < ahead last g) q (ahead-less last g (in-reach .at) h l (in-reach .low) short)
     where
       here : nextGame ready last ≡ some (turnAt last (in-reach .at))

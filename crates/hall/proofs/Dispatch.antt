@@ -1,7 +1,7 @@
 -- What a dispatch does: which game it serves, what it leaves where it serves none, and that it is a greedy round of the game that it serves.
 use Prim.Native.Nat.{ℕ, _≤_, _<_}
 use mathlib.Core.Path.{_≡_, refl, sym, ap, _∙_}
-use mathlib.Core.Bool.{true, false, not, _&&_, _||_}
+use mathlib.Core.Bool.{true, false, _||_}
 use mathlib.Core.Logic.{_↔_}
 use mathlib.Core.List.{[]}
 use mathlib.Core.Option.{Option, none, some, Option·getD}
@@ -15,17 +15,17 @@ use Rattle.base.proofs.Checks.{neither, given}
 use Rattle.base.proofs.Members.{stay-nobody}
 use Rattle.roster.specs.Roster.{Roster}
 use Rattle.seating.specs.Seating.{Sheets, sizesOver, seats}
-use Rattle.hall.specs.Games.{isNoGame, noGame, circle, nextGame}
+use Rattle.hall.specs.Games.{isNoGame, noGame, noLastGame, circle, nextGame}
 use Rattle.hall.specs.Hall.{HallState, awaiting, isOver}
 use Rattle.hall.specs.Rounds.{Method, greedy, Round, of-game, dispatch, RoundCall, Found, ready, servedBy, roundFound, servedIn, departing, roundRule}
-use Rattle.hall.proofs.Circle.{Foremost, next-iff, next-low, some-next}
+use Rattle.hall.proofs.Circle.{FirstReady, next-iff, next-low, some-next}
 use Rattle.hall.proofs.Found.{round-found, round-within}
 
 -- in a hall within its limits the last game served is 0 to 7, or none
 pub last-low : (h : HallState) → isOver h ≡ false → h .served ≤ noGame
 last-low h e = go (neither (any sizesOver (h .sizes)) _ (neither (ltb 64 (h .waiting .size) || ltb 1024 (h .log .size)) _ e .1) .1)
   where
-    go : (isNoGame (h .served) && not (eqb (h .served) noGame)) ≡ false → h .served ≤ noGame
+    go : noLastGame (h .served) ≡ false → h .served ≤ noGame
     go e =
         cases (isNoGame (h .served))
         (λ t. cases (eqb (h .served) noGame) (λ q. omega (arith, eqb-true (h .served) noGame q)) (λ q. never (let z : true ≡ false = rw (t, q) at e in cc)))
@@ -57,7 +57,7 @@ module _ (h : HallState) (r : Roster) (clock : ℕ) (sheets : Sheets) where
     serves-next = rw free
 
     -- it serves game g exactly where g has enough, and no game before it in the circle from the last one served on has
-    pub serves-iff : (g : ℕ) → (roundRule h dispatching .served ≡ some g) ↔ Foremost (ready h) (circle (h .served)) g
+    pub serves-iff : (g : ℕ) → (roundRule h dispatching .served ≡ some g) ↔ FirstReady (ready h) (circle (h .served)) g
     serves-iff g = rw serves-next (next-iff (ready h) (h .served) g)
 
     -- it serves none exactly where no game has enough

@@ -1,14 +1,14 @@
 -- What a round that is not refused hands out: full matches of different guests who wait for its game, and of a full round the best choice.
 use Prim.Native.Nat.{ℕ}
-use mathlib.Core.Path.{_≡_, refl, sym, _∙_, subst}
+use mathlib.Core.Path.{_≡_, refl, subst}
 use mathlib.Core.Bool.{Bool, true, false}
 use mathlib.Core.List.{List, [], _∷_, map, map-map, append-nil}
 use mathlib.Core.Option.{Option, none, some}
 use Rattle.base.specs.Refusals.{Outcome, refused, gives}
-use Rattle.base.specs.Lists.{seek, keep, member, Distinct, Within}
-use Rattle.base.proofs.Cases.{cases, never}
+use Rattle.base.specs.Lists.{seek, Distinct, Within}
+use Rattle.base.proofs.Cases.{never}
 use Rattle.base.proofs.Checks.{passed-to, given}
-use Rattle.base.proofs.Members.{absent-keep, distinct-keep}
+use Rattle.base.proofs.Members.{distinct-keep, within-keep}
 use Rattle.queue.specs.declared.QueueEntry.{QueueEntry}
 use Rattle.matchmaker.specs.Quality.{MatchState}
 use Rattle.seating.specs.declared.TeamComposition.{TeamComposition}
@@ -76,17 +76,6 @@ module _ (s : TeamComposition) (clock : ℕ) (es : List QueueEntry) where
 pub players : (bs : List Booking) → map (λ e. e .player) (map entryOf bs) ≡ map (λ b. b .player) bs
 players bs = map-map (λ (e : QueueEntry). e .player) entryOf bs
 
-module _ {A : Type 0} (key : A → ℕ) (p : A → Bool) where
-  -- who is kept is in the list
-  member-keep : (n : ℕ) (xs : List A) → member n (map key (keep p xs)) ≡ true → member n (map key xs) ≡ true
-  member-keep n xs m =
-      cases (member n (map key xs)) (λ t. t) (λ f. never (let z : true ≡ false = sym m ∙ absent-keep key p n xs f in cc))
-
-  -- and so are any of those who are
-  within-keep : (ns : List ℕ) (xs : List A) → Within ns (map key (keep p xs)) → Within ns (map key xs)
-  within-keep [] xs w = tt
-  within-keep (n ∷ ns) xs w = (member-keep n xs (w .0), within-keep ns xs (w .1))
-
 module _ (ws : List Booking) where
   -- nobody whom a round may seat stands there twice
   eligible-distinct : (g : Option ℕ) → Distinct (map (λ b. b .player) ws) → Distinct (map (λ b. b .player) (eligibleBy g ws))
@@ -101,6 +90,12 @@ module _ (ws : List Booking) where
   eligible-waits (some g) ns w = within-keep (λ b. b .player) _ ns ws w
 
 -- ---- what a round hands out
+
+-- where the check of the hall passes, the game is one, and the hall is within its limits
+pub hall-passes : (unknown over : Bool) → gives tt ≡ hallCheck unknown over → (unknown ≡ false) × (over ≡ false)
+hall-passes true over e = never cc
+hall-passes false true e = never cc
+hall-passes false false e = (refl, refl)
 
 -- a round that names no game is refused with 13, whatever else it brings
 pub unknown-game : (h : HallState) (c : RoundCall) → namesNoGame (c .round) ≡ true → roundFound h c ≡ refused 13
@@ -130,9 +125,4 @@ module _ (h : HallState) (c : RoundCall) (f : Found) (e : roundFound h c ≡ giv
 
   -- a round that is not refused found the hall within its limits
   pub round-within : isOver h ≡ false
-  round-within = go (namesNoGame (c .round)) (isOver h) (passed-to (hallCheck (namesNoGame (c .round)) (isOver h)) there e .0)
-    where
-      go : (unknown over : Bool) → gives tt ≡ hallCheck unknown over → over ≡ false
-      go true over p = never cc
-      go false true p = never cc
-      go false false p = refl
+  round-within = hall-passes (namesNoGame (c .round)) (isOver h) (passed-to (hallCheck (namesNoGame (c .round)) (isOver h)) there e .0) .1

@@ -47,9 +47,13 @@ noGame = 255
 abbrev pub gameIn : ℕ → Option ℕ
 gameIn n = cond (eqb n noGame) none (some n)
 
--- refusal 1: "a size over 8, or .. a last game served neither 0 to 7 nor none"
+-- "a last game served neither 0 to 7 nor none"
+abbrev pub noLastGame : ℕ → Bool
+noLastGame served = isNoGame served && not (eqb served noGame)
+
+-- refusal 1: that, or "a size over 8" in any game
 abbrev pub gamesOver : List TeamComposition → ℕ → Bool
-gamesOver sizes served = any sizesOver sizes || (isNoGame served && not (eqb served noGame))
+gamesOver sizes served = any sizesOver sizes || noLastGame served
 
 -- ---- whose turn it is
 
