@@ -1,8 +1,8 @@
-// What every crate shares: the refusals of documents 01 and 02; `abs`, `min` and the test for NaN on floats; a number with a limit, and whether one is among
-// others.
+// What every crate shares: the refusals of documents 01 and 02; `abs`, `min`, the test for NaN and the bits of floats; a number with a limit, and whether one
+// is among others.
 ghost use mathlib.Core.Path.{_≡_};
 ghost use Prim.Native.Nat as Nat;
-ghost use lib.Ieee.{isNan};
+ghost use lib.Ieee.{binary64, isNan, ofBits, toBits};
 ghost use Rattle.base.specs.Refusals.{refusalNumber};
 ghost use Rattle.base.specs.Floats.{absOf, minOf};
 ghost use Rattle.base.specs.Lists.{member};
@@ -84,6 +84,27 @@ pub fn is_nan(x: f64) -> bool
     ensures { λ r. ⌜ r ≡ isNan x ⌝ }
 {
     x != x
+}
+
+// The float of these bits, and one NaN for all patterns of a NaN: but for the sign, those above the bits of infinity.
+pub fn from_bits(bits: u64) -> f64
+    ensures { λ r. ⌜ r ≡ ofBits binary64 bits ⌝ }
+{
+    let magnitude = bits % 9223372036854775808;
+    if 9218868437227405312 < magnitude {
+        return 0.0 / 0.0;
+    }
+    f64::from_bits(bits)
+}
+
+// The bits of a float, and one pattern for all NaNs.
+pub fn to_bits(x: f64) -> u64
+    ensures { λ r. ⌜ r ≡ toBits binary64 x ⌝ }
+{
+    if x != x {
+        return 9221120237041090560;
+    }
+    f64::to_bits(x)
 }
 
 // So many, or the limit where they are more.

@@ -1,5 +1,4 @@
 // Objective vectors, as skill role latency party wait utilization.
-use crate::floats;
 use crate::words;
 use objective::pareto;
 use pareto::MatchObjectiveVector;
@@ -19,12 +18,12 @@ pub fn vector(text: &[u8], from: Cursor) -> ReadVector {
     let wait = words::next(text, party.cursor);
     let utilization = words::next(text, wait.cursor);
     let vector = MatchObjectiveVector {
-        skill: floats::float(skill.value),
-        role: floats::float(role.value),
-        latency: floats::float(latency.value),
-        party: floats::float(party.value),
-        wait: floats::float(wait.value),
-        utilization: floats::float(utilization.value),
+        skill: base::from_bits(skill.value),
+        role: base::from_bits(role.value),
+        latency: base::from_bits(latency.value),
+        party: base::from_bits(party.value),
+        wait: base::from_bits(wait.value),
+        utilization: base::from_bits(utilization.value),
     };
     let cursor = utilization.cursor;
     ReadVector {

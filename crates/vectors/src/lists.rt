@@ -1,7 +1,6 @@
 // Lists, as n and n words, into an array that the caller lends. A list that is longer than the array fails.
 ghost use Prim.Native.Nat.{_≤_};
 ghost use Rattle.base.specs.Sheets.{Counts};
-use crate::floats;
 use crate::words;
 use words::Cursor;
 
@@ -61,7 +60,7 @@ pub fn of_floats(text: &[u8], from: Cursor, out: &mut [f64]) -> Listed
     let mut i: usize = 0;
     while i < n {
         let read = words::next(text, cursor);
-        out[i] = floats::float(read.value);
+        out[i] = base::from_bits(read.value);
         cursor = read.cursor;
         i += 1;
     }

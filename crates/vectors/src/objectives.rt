@@ -1,6 +1,5 @@
 // Soft objectives, as k and k times kind weight. An array of enums is no field of a struct: they are read as kinds and weights.
 ghost use Prim.Native.Nat.{_≤_};
-use crate::floats;
 use crate::words;
 use objective::soft;
 use soft::SoftObjective;
@@ -28,7 +27,7 @@ fn listed(text: &[u8], from: Cursor, n: usize) -> ReadObjectives
         let kind = words::next(text, cursor);
         let weight = words::next(text, kind.cursor);
         kinds[i] = kind.value;
-        weights[i] = floats::float(weight.value);
+        weights[i] = base::from_bits(weight.value);
         known = known && kind.value < 3;
         cursor = words::checked(weight.cursor, kind.value < 256);
         i += 1;

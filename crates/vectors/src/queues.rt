@@ -26,7 +26,7 @@ pub fn entry(text: &[u8], from: Cursor) -> ReadEntry {
     let entry = QueueEntry {
         player: player.value,
         joined: joined.value,
-        rating: floats::float(rating.value),
+        rating: base::from_bits(rating.value),
         party: party.value,
         role: words::low_half(role.value),
     };

@@ -1,5 +1,4 @@
 // Weights of a match's score, as quality wait ping uncertainty.
-use crate::floats;
 use crate::words;
 use objective::score;
 use score::MatchObjective;
@@ -16,10 +15,10 @@ pub fn read(text: &[u8], from: Cursor) -> ReadWeights {
     let ping = words::next(text, wait.cursor);
     let uncertainty = words::next(text, ping.cursor);
     let weights = MatchObjective {
-        quality: floats::float(quality.value),
-        wait: floats::float(wait.value),
-        ping: floats::float(ping.value),
-        uncertainty: floats::float(uncertainty.value),
+        quality: base::from_bits(quality.value),
+        wait: base::from_bits(wait.value),
+        ping: base::from_bits(ping.value),
+        uncertainty: base::from_bits(uncertainty.value),
     };
     let cursor = uncertainty.cursor;
     ReadWeights {

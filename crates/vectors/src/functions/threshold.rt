@@ -1,7 +1,6 @@
 // minimum, objectives, candidates, columns ids and ratings -> refusal, places
 use crate::candidates;
 use crate::columns;
-use crate::floats;
 use crate::objectives;
 use crate::places;
 use crate::words;
@@ -24,7 +23,7 @@ pub fn replay(text: &[u8], inputs: Cursor) -> Cursor {
     after_columns(
         text,
         second.cursor,
-        floats::float(minimum.value),
+        base::from_bits(minimum.value),
         listed,
         brought,
         &ids[..n],

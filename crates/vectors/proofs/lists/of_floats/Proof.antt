@@ -23,8 +23,8 @@ loop-holds c = search needs
 next-requires : tie.Need-next-requires Inv-loop μ-loop
 next-requires c κs = search needs
 
-float-requires : tie.Need-float-requires Inv-loop μ-loop
-float-requires c κs = search needs
+from-bits-requires : tie.Need-from-bits-requires Inv-loop μ-loop
+from-bits-requires c κs = search needs
 
 mul-out : tie.Need-mul-out Inv-loop μ-loop
 mul-out c = search needs
@@ -56,7 +56,7 @@ of-floats-spec =
     size-requires
     loop-holds
     next-requires
-    float-requires
+    from-bits-requires
     mul-out
     slice-write-out
     add-i

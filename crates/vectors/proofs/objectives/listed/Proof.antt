@@ -27,8 +27,8 @@ mul-kinds c = search needs
 array-write-kinds : tie.Need-array-write-kinds Inv-loop μ-loop
 array-write-kinds c = search needs
 
-float-requires : tie.Need-float-requires Inv-loop μ-loop
-float-requires c κs = search needs
+from-bits-requires : tie.Need-from-bits-requires Inv-loop μ-loop
+from-bits-requires c κs = search needs
 
 mul-weights : tie.Need-mul-weights Inv-loop μ-loop
 mul-weights c = search needs
@@ -62,7 +62,7 @@ listed-spec =
     next-requires-2
     mul-kinds
     array-write-kinds
-    float-requires
+    from-bits-requires
     mul-weights
     array-write-weights
     checked-requires
