@@ -58,7 +58,7 @@ pub extern "C" fn yilgashe_hall_empty(games: Games) -> Hall
     let booking = Booking {
         player: 0,
         joined: 0,
-        rating: 0.0,
+        rating_bits: 0,
         party: 0,
         role: 0,
         game: 0,

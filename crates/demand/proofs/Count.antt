@@ -18,7 +18,9 @@ use Rattle.hall.specs.declared.Booking.{Booking}
 use Rattle.demand.proofs.Deals.{book-elim, withdraw-elim}
 use Rattle.demand.proofs.Keys.{signatures, toMark, mark-judge}
 use Rattle.hall.proofs.Found.{players, eligible-waits}
-use Rattle.demand.proofs.Orderly.{waits, Sane, handled, step-handled, sane-step, sizes-step, drawn, told, left}
+use Rattle.demand.proofs.Handled.{handled, step-handled, sizes-step}
+use Rattle.demand.proofs.Bounded.{waits}
+use Rattle.demand.proofs.Orderly.{Sane, sane-step, drawn, told, left}
 use Rattle.demand.proofs.Thin.{grow-step}
 
 -- ---- one call
@@ -73,7 +75,7 @@ balance-handled h (round c) s =
 
 -- and so is every step, by the sizes that the hall has
 balance-step : (sizes : List TeamComposition) (h : HallState) (c : Call) → Sane h → h .sizes ≡ sizes → Balanced sizes h c (step h c)
-balance-step sizes h c s q = subst (λ (z : List TeamComposition). Balanced z h c (step h c)) q (rw (step-handled h c s) (balance-handled h c s))
+balance-step sizes h c s q = subst (λ (z : List TeamComposition). Balanced z h c (step h c)) q (rw (step-handled h c (s .bounded .within)) (balance-handled h c s))
 
 -- ---- any list of calls
 
@@ -85,4 +87,4 @@ unfolding Balanced
 conserve sizes h [] s q = refl
 conserve sizes h (c ∷ cs) s q =
     rw (grow-step h c s)
-    (omega (arith, conserve sizes (step h c .hall) cs (sane-step h c s) (sizes-step h c s ∙ q), balance-step sizes h c s q))
+    (omega (arith, conserve sizes (step h c .hall) cs (sane-step h c s) (sizes-step h c ∙ q), balance-step sizes h c s q))

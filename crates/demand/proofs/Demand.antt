@@ -2,12 +2,12 @@
 use Prim.Native.Nat.{ℕ, _+_}
 use mathlib.Core.Path.{_≡_, refl, sym, ap, _∙_, subst}
 use mathlib.Core.Bool.{Bool, true, false}
-use mathlib.Core.List.{List, [], _∷_, _++_, map, append-nil}
+use mathlib.Core.List.{List, [], _∷_, _++_, map}
 use mathlib.Core.Option.{none, some}
 use native.Mathlib.Omega.{arith}
 use lib.ListN.{length}
 use Rattle.base.specs.Refusals.{Outcome, refused, gives}
-use Rattle.base.specs.Lists.{seek, any}
+use Rattle.base.specs.Lists.{any}
 use Rattle.base.proofs.Cases.{cases, never}
 use Rattle.seating.specs.declared.TeamComposition.{TeamComposition}
 use Rattle.seating.specs.Seating.{Sheets, sizesOver}
@@ -15,16 +15,17 @@ use Rattle.seating.specs.Seats.{Seating}
 use Rattle.seating.proofs.Drawn.{drawn-none}
 use Rattle.choice.specs.Full.{Terms}
 use Rattle.hall.specs.Games.{sizesFor, eligible}
-use Rattle.hall.specs.Hall.{HallState, entryOf, empty, Deed}
+use Rattle.hall.specs.Hall.{HallState, entryOf, empty}
 use Rattle.hall.specs.Rounds.{RoundCall, full, of-game, gameOf, sizesIn, entriesIn, Found, roundFound, matchesFrom, turnFrom, FullRound}
 use Rattle.hall.proofs.Found.{round-best}
 use Rattle.hall.proofs.Others.{round-others}
-use Rattle.demand.specs.Calls.{Call, keyed, round, no-kind, noKindRefusal, kindOf, playerOf, Answer, handed, Step, rounded, step, after, answers, mark, original, resend, originals, leave, thin, matchesHanded, acceptedIn, withdrawnIn, seatedIn, replay}
+use Rattle.hall.proofs.Sameness.{same-deed}
+use Rattle.demand.specs.Calls.{Call, keyed, round, no-kind, noKindRefusal, Answer, handed, Step, rounded, step, after, answers, mark, originals, leave, thin, matchesHanded, acceptedIn, withdrawnIn, seatedIn, replay}
 use Rattle.demand.specs.Demand.{Orderly, Resent, Thinned, countGiven, Demand3}
-use Rattle.demand.proofs.Sameness.{Alike, alike-true, alike-of}
-use Rattle.demand.proofs.Orderly.{Sane, step-handled, sane-after, orderly-empty, sane-empty, sizes-after, drawn, told, grows}
-use Rattle.demand.proofs.Thin.{grow-after, Left, left-out}
-use Rattle.demand.proofs.Resend.{after-append, named}
+use Rattle.demand.proofs.Handled.{step-handled, sizes-after, grows}
+use Rattle.demand.proofs.Orderly.{Sane, sane-after, orderly-empty, sane-empty, drawn, told}
+use Rattle.demand.proofs.Thin.{Left, left-out}
+use Rattle.demand.proofs.Resend.{named, clashing}
 use Rattle.demand.proofs.Origin.{Again, resent, replayed}
 use Rattle.demand.proofs.First.{first-iff}
 use Rattle.demand.proofs.Count.{conserve}
@@ -37,32 +38,20 @@ pub answers-append : (h : HallState) (cs ds : List Call) → answers h (cs ++ ds
 answers-append h [] ds = refl
 answers-append h (c ∷ cs) ds = ap (λ (r : List Answer). step h c .answer ∷ r) (answers-append (step h c .hall) cs ds)
 
--- a later call with an original's key, kind and guest is a resend; the calls alone say so, and any sizes do to prove it
-named-list : (pre mid : List Call) (k : ℕ) (d e : Deed) → mark (originals [] pre) (keyed k d) ≡ original → kindOf d ≡ kindOf e → playerOf d ≡ playerOf e → mark (originals [] (pre ++ (keyed k d ∷ mid))) (keyed k e) ≡ resend
-unfolding seek
-named-list pre mid k d e m p q =
-    let s : Sane (empty []) = sane-empty [] refl in
-    rw (grow-after (empty []) (pre ++ (keyed k d ∷ mid)) s, after-append (empty []) pre (keyed k d ∷ mid))
-    (named (after (empty []) pre) mid k d e (sane-after (empty []) pre s) (rw (grow-after (empty []) pre s) at m) (alike-of d e p q))
-
--- a resend has an original of its key, kind and guest
-resent-list : (sizes : List TeamComposition) (pre : List Call) (c : Call) → Again sizes pre c → Resent sizes pre c
-resent-list sizes pre c r =
-    let l : Alike (r .first) (r .deed) = alike-true (r .first) (r .deed) (r .alike) in
+-- a resend is its original, come again
+repeated : (sizes : List TeamComposition) (pre : List Call) (c : Call) → Again sizes pre c → Resent sizes pre c
+repeated sizes pre c r =
     record {
-      key = r .key;
-      deed = r .deed;
-      first = r .first;
       before = r .before;
       between = r .between;
-      call = r .call;
-      earlier = r .earlier;
-      marked = r .marked;
-      kind = l .kind;
-      player = l .player;
+      earlier = r .earlier ∙ ap (λ (x : Call). r .before ++ (x ∷ r .between)) it;
+      marked = ap (mark (originals [] (r .before))) (sym it) ∙ r .marked;
       hall = r .hall;
-      answer = r .answer;
+      answer = r .answer ∙ ap (λ (x : Call). step (after (empty sizes) (r .before)) x .answer) it;
     }
+  where
+    it : keyed (r .key) (r .first) ≡ c
+    it = ap (keyed (r .key)) (same-deed (r .first) (r .deed) (r .alike)) ∙ sym (r .call)
 
 -- a full round one of whose soft kinds is none
 turned-away : (h : HallState) (g : ℕ) (s : Sheets) → step h (no-kind g s) ≡ record { hall = h; answer = handed (record { answer = refused (noKindRefusal g); sheets = s }) 0 none }
@@ -76,7 +65,7 @@ module _ (sizes : List TeamComposition) (h : HallState) (c : RoundCall) (s : San
   told-step : matchesHanded sizes (round c) (step h (round c) .answer) ≡ matchesFrom (roundFound h c)
   told-step =
       ap (λ (z : List TeamComposition). matchesHanded z (round c) (step h (round c) .answer)) (sym q)
-      ∙ ap (λ (t : Step). matchesHanded (h .sizes) (round c) (t .answer)) (step-handled h (round c) s) ∙ told h c s
+      ∙ ap (λ (t : Step). matchesHanded (h .sizes) (round c) (t .answer)) (step-handled h (round c) (s .bounded .within)) ∙ told h c s
 
   -- so they seat different guests who waited for its game just before, A and B in each
   seating : Seating (sizesIn h c) (entriesIn h c) (matchesHanded sizes (round c) (step h (round c) .answer))
@@ -87,7 +76,7 @@ module _ (sizes : List TeamComposition) (h : HallState) (c : RoundCall) (s : San
       FullRound t (sizesFor sizes g) (map entryOf (eligible g (h .waiting .bookings))) (matchesHanded sizes (round c) (step h (round c) .answer))
   fulls g t n p e =
       subst (FullRound t (sizesFor sizes g) (map entryOf (eligible g (h .waiting .bookings)))) (sym told-step)
-      (go (roundFound h c) refl (ap (λ (x : Step). countGiven (x .answer)) (sym (step-handled h (round c) s)) ∙ e))
+      (go (roundFound h c) refl (ap (λ (x : Step). countGiven (x .answer)) (sym (step-handled h (round c) (s .bounded .within))) ∙ e))
     where
       go : (x : Outcome Found) → roundFound h c ≡ x → countGiven (rounded (turnFrom h c x) .answer) ≡ gives n →
           FullRound t (sizesFor sizes g) (map entryOf (eligible g (h .waiting .bookings))) (matchesFrom x)
@@ -108,10 +97,6 @@ module _ (sizes : List TeamComposition) (small : any sizesOver sizes ≡ false) 
   sane-so-far : (cs : List Call) → Sane (after (empty sizes) cs)
   sane-so-far cs = sane-after (empty sizes) cs (sane-empty sizes small)
 
-  -- whose sizes are those given
-  sizes-so-far : (cs : List Call) → after (empty sizes) cs .sizes ≡ sizes
-  sizes-so-far cs = sizes-after (empty sizes) cs (sane-empty sizes small)
-
   -- any resends left out
   thinned : (m : List Bool) (calls : List Call) → Thinned sizes (leave m [] calls) calls
   thinned m calls =
@@ -124,17 +109,18 @@ module _ (sizes : List TeamComposition) (small : any sizesOver sizes ≡ false) 
       record {
         turns = λ pre post c e. ap (answers (empty sizes)) e ∙ answers-append (empty sizes) pre (c ∷ post);
         orderly = λ pre post e. sane-so-far pre .orderly;
-        games = λ pre post e. sizes-so-far pre;
+        games = λ pre post e. sizes-after (empty sizes) pre;
         firsts = λ pre post k d e. first-iff pre k d;
-        named = λ pre mid post k d f e. named-list pre mid k d f;
-        resends = λ pre post c e m. resent-list sizes pre c (resent sizes small pre c m);
+        named = λ pre mid post c e. named pre mid c;
+        clashes = λ pre mid post k d e q m other s. clashing sizes small pre mid k d m e other;
+        resends = λ pre post c e m. repeated sizes pre c (resent sizes small pre c m);
         thinned = λ m. thinned m calls;
-        grows = λ pre post c e. grows (after (empty sizes) pre) c (sane-so-far pre);
+        grows = λ pre post c e. grows (after (empty sizes) pre) c;
         sum = omega (arith, conserve sizes (empty sizes) calls (sane-empty sizes small) refl);
         queue = λ pre post e. replayed sizes (empty sizes) pre (sane-empty sizes small) refl;
-        seating = λ pre post c e. seating sizes (after (empty sizes) pre) c (sane-so-far pre) (sizes-so-far pre);
-        others = λ pre post c g e. others sizes (after (empty sizes) pre) c (sane-so-far pre) (sizes-so-far pre) g;
-        fulls = λ pre post g t c n e. fulls sizes (after (empty sizes) pre) c (sane-so-far pre) (sizes-so-far pre) g t n;
+        seating = λ pre post c e. seating sizes (after (empty sizes) pre) c (sane-so-far pre) (sizes-after (empty sizes) pre);
+        others = λ pre post c g e. others sizes (after (empty sizes) pre) c (sane-so-far pre) (sizes-after (empty sizes) pre) g;
+        fulls = λ pre post g t c n e. fulls sizes (after (empty sizes) pre) c (sane-so-far pre) (sizes-after (empty sizes) pre) g t n;
         no-kinds = λ pre post g s e. turned-away (after (empty sizes) pre) g s;
       }
 
@@ -183,12 +169,13 @@ module _ (sizes : List TeamComposition) (big : any sizesOver sizes ≡ true) whe
       record {
         turns = λ pre post c e. ap (answers (empty sizes)) e ∙ answers-append (empty sizes) pre (c ∷ post);
         orderly = λ pre post e. subst Orderly (sym (empty-so-far pre)) (orderly-empty sizes);
-        games = λ pre post e. ap (λ (h : HallState). h .sizes) (empty-so-far pre);
+        games = λ pre post e. sizes-after (empty sizes) pre;
         firsts = λ pre post k d e. first-iff pre k d;
-        named = λ pre mid post k d f e. named-list pre mid k d f;
-        resends = λ pre post c e m. resent-list sizes pre c (resent-over sizes big pre c m);
+        named = λ pre mid post c e. named pre mid c;
+        clashes = λ pre mid post k d e q m other small. never (let z : true ≡ false = sym big ∙ small in cc);
+        resends = λ pre post c e m. repeated sizes pre c (resent-over sizes big pre c m);
         thinned = λ m. thinned-over (leave m [] calls) calls;
-        grows = λ pre post c e. record { behind = []; split = ap (λ (x : Step). x .hall .log .records) (refused-step pre c) ∙ sym (append-nil (after (empty sizes) pre .log .records)) };
+        grows = λ pre post c e. grows (after (empty sizes) pre) c;
         sum = sum-over calls;
         queue = λ pre post e. queue-over pre;
         seating = λ pre post c e. subst (Seating _ _) (sym (unmatched pre c)) (drawn-none _ _ .seating);

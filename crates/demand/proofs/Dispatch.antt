@@ -5,15 +5,17 @@ use mathlib.Core.Bool.{true, false, and-false, and-true}
 use mathlib.Core.Option.{Option, none, some, Option·getD}
 use lib.Dec.{eqb}
 use Rattle.base.specs.Refusals.{Outcome, refused, gives}
-use Rattle.base.proofs.Cases.{cases, never}
+use Rattle.base.proofs.Cases.{never}
 use Rattle.base.proofs.Checks.{both-hold}
 use Rattle.hall.specs.Games.{nextGame}
-use Rattle.hall.specs.Hall.{HallState, isOver, deal, signed, Judgement, known, clash, full, fresh, judge, turn}
+use Rattle.hall.specs.Hall.{HallState, isOver, deal, signed}
 use Rattle.hall.specs.Rounds.{Round, of-game, dispatch, RoundCall, Found, ready, servedBy, roundFound, departing, turnFrom}
 use Rattle.hall.proofs.Circle.{ahead, nearer}
 use Rattle.hall.proofs.Found.{round-within}
 use Rattle.hall.proofs.Dispatch.{last-low}
 use Rattle.demand.specs.Calls.{Call, keyed, round, no-kind, rounded, step, servedOf, isDispatch, dispatches}
+use Rattle.demand.proofs.Keys.{turn-elim}
+use Rattle.demand.proofs.Handled.{step-elim}
 
 -- a dispatch serves the game whose turn it is
 dispatch-next : (h : HallState) (r : Round) → isDispatch r ≡ true → servedBy h r ≡ nextGame (ready h) (h .served)
@@ -45,13 +47,9 @@ dispatched h c e = go (roundFound h c) refl e
 -- only a dispatch not refused changes the last game served
 pub last-stays : (h : HallState) (c : Call) → dispatches c (step h c .answer) ≡ false → step h c .hall .served ≡ h .served
 unfolding step
-last-stays h (keyed k d) e = cases (isOver h) (λ t. rw t) (λ f. rw f (go (judge (h .log .records) (signed k d))))
-  where
-    go : (v : Judgement) → turn h (signed k d) (deal d (h .waiting .bookings)) v .hall .served ≡ h .served
-    go (known a) = refl
-    go clash = refl
-    go full = refl
-    go fresh = refl
+last-stays h (keyed k d) e =
+    step-elim (λ i. i .served ≡ h .served) h (keyed k d) refl
+    (turn-elim (λ r. r .hall .served ≡ h .served) h (signed k d) (deal d (h .waiting .bookings)) (λ a. refl) (λ n. refl))
 last-stays h (round c) e = go (roundFound h c) e
   where
     go : (x : Outcome Found) → dispatches (round c) (rounded (turnFrom h c x) .answer) ≡ false → departing h (servedBy h (c .round)) x .served ≡ h .served

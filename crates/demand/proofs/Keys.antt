@@ -1,7 +1,7 @@
 -- The key book: what it says to a call, and which notes are found. What a key stands for is compared by `same`, which stays shut.
 use Prim.Native.Nat.{ℕ, _<_}
 use mathlib.Core.Path.{_≡_, refl, ap, _∙_}
-use mathlib.Core.Bool.{true}
+use mathlib.Core.Bool.{true, cond}
 use mathlib.Core.List.{List, [], _∷_, map}
 use mathlib.Core.Option.{Option, none, some}
 use lib.Dec.{eqb, ltb}
@@ -77,10 +77,10 @@ judge-old rs s a e = go (lookUp (s .key) rs) refl e
         (λ q. read n p q (answerIn (n .content .kind) (n .answer)) refl (rw q at e))
         (λ q. never (let z : clash ≡ known a = rw q at e in cc))
 
--- a note that stands for the call and can be read makes it known
-pub judge-known : (rs : List KeyRecord) (s : Signature) (n : KeyRecord) (a : Outcome (Unit {0})) → lookUp (s .key) rs ≡ some n → same (n .content) (s .content) ≡ true → answerIn (n .content .kind) (n .answer) ≡ some a → judge rs s ≡ known a
+-- a note that can be read tells its answer to a call for which it stands, and clashes with any other
+pub judge-noted : (rs : List KeyRecord) (s : Signature) (n : KeyRecord) (a : Outcome (Unit {0})) → lookUp (s .key) rs ≡ some n → answerIn (n .content .kind) (n .answer) ≡ some a → judge rs s ≡ cond (same (n .content) (s .content)) (known a) clash
 unfolding judge
-judge-known rs s n a e l r = rw (e, l, r)
+judge-noted rs s n a e r = rw (e, r)
 
 -- ---- the book and the originals so far
 

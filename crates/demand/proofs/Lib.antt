@@ -1,6 +1,7 @@
 pub mod Deals
-pub mod Sameness
 pub mod Keys
+pub mod Handled
+pub mod Bounded
 pub mod Orderly
 pub mod Thin
 pub mod Resend
@@ -9,6 +10,7 @@ pub mod First
 pub mod Count
 pub mod Over
 pub mod Demand
+pub mod Older
 pub mod Friends
 pub mod Dispatch
 pub mod Fair

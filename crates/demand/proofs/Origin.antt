@@ -11,13 +11,13 @@ use Rattle.base.proofs.Lookup.{found-new}
 use Rattle.seating.specs.declared.TeamComposition.{TeamComposition}
 use Rattle.seating.specs.Seating.{sizesOver, seats}
 use Rattle.matchmaker.specs.Quality.{MatchState}
-use Rattle.hall.specs.Hall.{HallState, withoutGuests, Content, same, KeyRecord, empty, Deed, book, withdraw, deal, contentOf, signed, answerIn, recorded, lookUp, Judgement, known, clash, full, fresh, judge, Turn, turn}
+use Rattle.hall.specs.Hall.{HallState, withoutGuests, Content, same, KeyRecord, empty, Deed, book, withdraw, deal, contentOf, signed, answerIn, lookUp, Judgement, known, clash, full, fresh, judge, Turn, turn}
 use Rattle.demand.specs.Calls.{Call, keyed, round, no-kind, answered, Step, step, after, answers, original, resend, mark, originals, isOriginal, taken, moved, replay}
 use Rattle.demand.proofs.Deals.{book-elim, withdraw-elim, read-back}
 use Rattle.demand.proofs.Keys.{Old, judge-old, signatures, toMark, mark-judge}
-use Rattle.demand.proofs.Orderly.{Sane, handled, step-handled, sane-step, sane-after, sane-empty, sizes-step, log-stays, told, left}
-use Rattle.demand.proofs.Thin.{grow-step, grow-after}
-use Rattle.demand.proofs.Resend.{found-after, known-step}
+use Rattle.demand.proofs.Handled.{handled, step-handled, step-judged, sizes-step, noteOf, log-elim, found-after}
+use Rattle.demand.proofs.Orderly.{Sane, sane-step, sane-after, sane-empty, told, left}
+use Rattle.demand.proofs.Thin.{grow-step, mark-after}
 
 -- ---- where a note comes from
 
@@ -26,26 +26,16 @@ record Born (h : HallState) (c : Call) (k : ℕ) (n : KeyRecord) : Type 0 where
   deed : Deed
   call : c ≡ keyed k deed
   new : judge (h .log .records) (signed k deed) ≡ fresh
-  left : n ≡ recorded (signed k deed) (deal deed (h .waiting .bookings) .answer)
+  left : n ≡ noteOf h k deed
 
 -- a key that has no note, and has one after a call, is that call's
-born : (h : HallState) (c : Call) (k : ℕ) (n : KeyRecord) → lookUp k (h .log .records) ≡ none → lookUp k (handled h c .hall .log .records) ≡ some n → Born h c k n
-born h (no-kind g x) k n e f = never cc
-born h (round c) k n e f = let z : lookUp k (h .log .records) ≡ some n = rw (log-stays h c) at f in never cc
-born h (keyed j d) k n e f = go (judge (h .log .records) (signed j d)) refl f
+born : (h : HallState) (c : Call) (k : ℕ) (n : KeyRecord) → lookUp k (h .log .records) ≡ none → lookUp k (step h c .hall .log .records) ≡ some n → Born h c k n
+born h c k n e = log-elim (λ rs. lookUp k rs ≡ some n → Born h c k n) h c (λ f. never cc) here
   where
-    go : (v : Judgement) → judge (h .log .records) (signed j d) ≡ v → lookUp k (turn h (signed j d) (deal d (h .waiting .bookings)) v .hall .log .records) ≡ some n → Born h (keyed j d) k n
-    go (known a) q f = never cc
-    go clash q f = never cc
-    go full q f = never cc
-    go fresh q f =
-        let m : KeyRecord = recorded (signed j d) (deal d (h .waiting .bookings) .answer) in
-        let l : (k ≡ m .key) × (n ≡ m) = found-new (λ r. r .key) k n m (h .log .records) e f in
-        subst (λ (i : ℕ). Born h (keyed j d) i n) (sym (l .0)) (record { deed = d; call = refl; new = q; left = l .1 })
-
--- a call whose key is new gets what its deal answers
-fresh-answer : (h : HallState) (k : ℕ) (d : Deed) → Sane h → judge (h .log .records) (signed k d) ≡ fresh → step h (keyed k d) .answer ≡ answered (deal d (h .waiting .bookings) .answer)
-fresh-answer h k d s e = rw (step-handled h (keyed k d) s, e)
+    here : (j : ℕ) (d : Deed) → c ≡ keyed j d → judge (h .log .records) (signed j d) ≡ fresh → lookUp k (h .log .records ++ (noteOf h j d ∷ [])) ≡ some n → Born h c k n
+    here j d p q f =
+        let l : (k ≡ j) × (n ≡ noteOf h j d) = found-new (λ r. r .key) k n (noteOf h j d) (h .log .records) e f in
+        subst (λ (i : ℕ). Born h c i n) (sym (l .0)) (record { deed = d; call = p; new = q; left = l .1 })
 
 -- the original among the calls, whose note it is
 record Origin (h : HallState) (cs : List Call) (k : ℕ) (n : KeyRecord) : Type 0 where
@@ -67,7 +57,7 @@ origin-here h c cs k n s b =
       split = ap (λ (x : Call). x ∷ cs) (b .call);
       first = mark-judge (h .log .records) (signed k (b .deed)) (s .readable) ∙ ap toMark (b .new);
       content = ap (λ (r : KeyRecord). r .content) (b .left);
-      answer = λ a e. fresh-answer h k (b .deed) s (b .new) ∙ ap answered (told-by a e);
+      answer = λ a e. ap (λ (x : Step). x .answer) (step-judged h k (b .deed) fresh (s .bounded .within) (b .new)) ∙ ap answered (told-by a e);
     }
   where
     given : (x y : Outcome (Unit {0})) → some x ≡ some y → x ≡ y
@@ -98,8 +88,8 @@ trace h (c ∷ cs) k n s e f = go (lookUp k (step h c .hall .log .records)) refl
           answer = r .answer;
         }
     go (some m) p i =
-        let b : Born h c k m = born h c k m e (rw (step-handled h c s) at p) in
-        let q : lookUp k (after (step h c .hall) cs .log .records) ≡ some m = found-after k m (step h c .hall) cs (sane-step h c s) p in
+        let b : Born h c k m = born h c k m e p in
+        let q : lookUp k (after (step h c .hall) cs .log .records) ≡ some m = found-after k m (step h c .hall) cs p in
         let u : m ≡ n = cc in
         subst (Origin h (c ∷ cs) k) u (origin-here h c cs k m s b)
 
@@ -131,10 +121,6 @@ module _ (sizes : List TeamComposition) (small : any sizesOver sizes ≡ false) 
   abbrev so-far : List Call → HallState
   so-far pre = after (empty sizes) pre
 
-  -- is sane
-  sane : (pre : List Call) → Sane (so-far pre)
-  sane pre = sane-after (empty sizes) pre (sane-empty sizes small)
-
   -- the original that the note traces to is what a resend needs
   resent-from : (pre : List Call) (k : ℕ) (d : Deed) (a : Outcome (Unit {0})) (o : Old (so-far pre .log .records) (signed k d) a) → Origin (empty sizes) pre k (o .note) → step (so-far pre) (keyed k d) ≡ record { hall = so-far pre; answer = answered a } → Again sizes pre (keyed k d)
   resent-from pre k d a o b t =
@@ -158,13 +144,12 @@ module _ (sizes : List TeamComposition) (small : any sizesOver sizes ≡ false) 
   resent pre (round c) e = never cc
   resent pre (no-kind g x) e = never cc
   resent pre (keyed k d) e =
-      go (mark-resend (judge (so-far pre .log .records) (signed k d))
-      (sym (mark-judge (so-far pre .log .records) (signed k d) (sane pre .readable)) ∙ (rw (grow-after (empty sizes) pre (sane-empty sizes small)) at e)))
+      go (mark-resend (judge (so-far pre .log .records) (signed k d)) (sym (mark-after (empty sizes) pre k d (sane-empty sizes small)) ∙ e))
     where
       go : (a : Outcome (Unit {0})) × (judge (so-far pre .log .records) (signed k d) ≡ known a) → Again sizes pre (keyed k d)
       go v =
           let o : Old (so-far pre .log .records) (signed k d) (v .0) = judge-old _ (signed k d) (v .0) (v .1) in
-          resent-from pre k d (v .0) o (trace (empty sizes) pre k (o .note) (sane-empty sizes small) refl (o .found)) (known-step (so-far pre) k d (v .0) (sane pre) (v .1))
+          resent-from pre k d (v .0) o (trace (empty sizes) pre k (o .note) (sane-empty sizes small) refl (o .found)) (step-judged (so-far pre) k d (known (v .0)) (sane-after (empty sizes) pre (sane-empty sizes small) .bounded .within) (v .1))
 
 -- ---- who waits, by calls and answers
 
@@ -199,9 +184,9 @@ moved-step : (sizes : List TeamComposition) (h : HallState) (c : Call) → Sane 
     step h c .hall .waiting .bookings ≡ moved sizes (isOriginal (mark (signatures (h .log .records)) c) && taken (step h c .answer)) c (step h c .answer) (h .waiting .bookings)
 moved-step sizes h c s q =
     subst (λ (z : List TeamComposition). step h c .hall .waiting .bookings ≡ moved z (isOriginal (mark (signatures (h .log .records)) c) && taken (step h c .answer)) c (step h c .answer) (h .waiting .bookings)) q
-    (rw (step-handled h c s) (moved-handled h c s))
+    (rw (step-handled h c (s .bounded .within)) (moved-handled h c s))
 
 -- and so do any calls
 pub replayed : (sizes : List TeamComposition) (h : HallState) (cs : List Call) → Sane h → h .sizes ≡ sizes → after h cs .waiting .bookings ≡ replay sizes (signatures (h .log .records)) (h .waiting .bookings) cs (answers h cs)
 replayed sizes h [] s q = refl
-replayed sizes h (c ∷ cs) s q = rw (grow-step h c s, ← moved-step sizes h c s q) (replayed sizes (step h c .hall) cs (sane-step h c s) (sizes-step h c s ∙ q))
+replayed sizes h (c ∷ cs) s q = rw (grow-step h c s, ← moved-step sizes h c s q) (replayed sizes (step h c .hall) cs (sane-step h c s) (sizes-step h c ∙ q))

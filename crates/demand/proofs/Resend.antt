@@ -1,20 +1,26 @@
--- A later call with an original's key, for which that key stands, is a resend.
+-- Behind an original, its key tells its answer to the same call, which is a resend, and clashes with any other.
 use Prim.Native.Nat.{ℕ}
-use mathlib.Core.Path.{_≡_, refl, ap, _∙_}
-use mathlib.Core.Bool.{true}
+use mathlib.Core.Path.{_≡_, refl, sym, ap, _∙_}
+use mathlib.Core.Bool.{false, cond}
 use mathlib.Core.List.{List, [], _∷_, _++_}
 use mathlib.Core.Option.{some}
-use Rattle.base.specs.Refusals.{Outcome}
-use Rattle.base.proofs.Cases.{never}
-use Rattle.base.proofs.Lookup.{found-append, found-last}
-use Rattle.hall.specs.Hall.{HallState, KeyRecord, Deed, deal, same, contentOf, signed, recorded, lookUp, Judgement, known, clash, full, fresh, judge, turn}
-use Rattle.demand.specs.Calls.{Call, keyed, round, no-kind, answered, step, after, original, resend, mark}
+use Rattle.base.specs.Lists.{seek, any}
+use Rattle.base.proofs.Cases.{never, cond-true, cond-false}
+use Rattle.base.proofs.Lookup.{found-last}
+use Rattle.seating.specs.declared.TeamComposition.{TeamComposition}
+use Rattle.seating.specs.Seating.{sizesOver}
+use Rattle.hall.specs.Hall.{HallState, same, empty, Deed, deal, contentOf, signed, lookUp, Judgement, known, clash, full, fresh, judge}
+use Rattle.hall.proofs.Sameness.{same-self, same-differs}
+use Rattle.demand.specs.Calls.{Call, keyed, round, no-kind, step, after, original, resend, mark, originals}
+use Rattle.demand.specs.Demand.{Clashing}
 use Rattle.demand.proofs.Deals.{read-back}
-use Rattle.demand.proofs.Keys.{judge-fresh, judge-known, signatures, toMark, mark-judge}
-use Rattle.demand.proofs.Orderly.{Sane, handled, step-handled, sane-step, sane-after, log-stays}
+use Rattle.demand.proofs.Keys.{judge-fresh, judge-noted, toMark}
+use Rattle.demand.proofs.Handled.{step-judged, noteOf, found-after}
+use Rattle.demand.proofs.Orderly.{Sane, sane-after, sane-empty}
+use Rattle.demand.proofs.Thin.{mark-after}
 
 -- an original's key is new
-pub mark-original : (v : Judgement) → toMark v ≡ original → v ≡ fresh
+mark-original : (v : Judgement) → toMark v ≡ original → v ≡ fresh
 mark-original (known a) e = never cc
 mark-original clash e = never cc
 mark-original full e = never cc
@@ -25,46 +31,57 @@ pub after-append : (h : HallState) (cs ds : List Call) → after h (cs ++ ds) �
 after-append h [] ds = refl
 after-append h (c ∷ cs) ds = after-append (step h c .hall) cs ds
 
--- ---- a note that is found is found after any calls
+-- ---- behind a call whose key is new
 
--- by one call
-found-handled : (k : ℕ) (n : KeyRecord) (h : HallState) (c : Call) → lookUp k (h .log .records) ≡ some n → lookUp k (handled h c .hall .log .records) ≡ some n
-found-handled k n h (round c) e = rw (log-stays h c) e
-found-handled k n h (no-kind g x) e = e
-found-handled k n h (keyed j d) e = go (judge (h .log .records) (signed j d))
-  where
-    go : (v : Judgement) → lookUp k (turn h (signed j d) (deal d (h .waiting .bookings)) v .hall .log .records) ≡ some n
-    go (known a) = e
-    go clash = e
-    go full = e
-    go fresh = found-append (λ r. r .key) k n (h .log .records) _ e
+module _ (h : HallState) (k : ℕ) (d : Deed) (s : Sane h) (new : judge (h .log .records) (signed k d) ≡ fresh) where
+  -- it leaves its note
+  noted : lookUp k (step h (keyed k d) .hall .log .records) ≡ some (noteOf h k d)
+  noted =
+      rw (step-judged h k d fresh (s .bounded .within) new)
+      (found-last (λ r. r .key) (noteOf h k d) (h .log .records) (judge-fresh (h .log .records) (signed k d) new .unnoted))
 
--- by any calls
-pub found-after : (k : ℕ) (n : KeyRecord) (h : HallState) (cs : List Call) → Sane h → lookUp k (h .log .records) ≡ some n → lookUp k (after h cs .log .records) ≡ some n
-found-after k n h [] s e = e
-found-after k n h (c ∷ cs) s e = found-after k n (step h c .hall) cs (sane-step h c s) (rw (step-handled h c s) (found-handled k n h c e))
+  -- which, behind any calls, tells its answer to a call for which it stands, and clashes with any other
+  told-again : (cs : List Call) (e : Deed) → judge (after h (keyed k d ∷ cs) .log .records) (signed k e) ≡ cond (same (contentOf d) (contentOf e)) (known (deal d (h .waiting .bookings) .answer)) clash
+  told-again cs e =
+      judge-noted (after h (keyed k d ∷ cs) .log .records) (signed k e) (noteOf h k d) (deal d (h .waiting .bookings) .answer)
+      (found-after k (noteOf h k d) (step h (keyed k d) .hall) cs noted) (read-back d (h .waiting .bookings))
 
--- ---- the note that an original leaves
+-- ---- behind an original of a list, where no size is over 8
 
--- the key of an original is found by its note
-noted : (h : HallState) (k : ℕ) (d : Deed) → Sane h → judge (h .log .records) (signed k d) ≡ fresh →
-    lookUp k (step h (keyed k d) .hall .log .records) ≡ some (recorded (signed k d) (deal d (h .waiting .bookings) .answer))
-noted h k d s e =
-    rw (step-handled h (keyed k d) s, e)
-    (found-last (λ r. r .key) (recorded (signed k d) (deal d (h .waiting .bookings) .answer)) (h .log .records) (judge-fresh (h .log .records) (signed k d) e .unnoted))
+module _ (sizes : List TeamComposition) (small : any sizesOver sizes ≡ false) (pre mid : List Call) (k : ℕ) (d : Deed) (first : mark (originals [] pre) (keyed k d) ≡ original) where
+  -- the calls before it, it, and those behind it
+  abbrev so-far : List Call
+  so-far = pre ++ (keyed k d ∷ mid)
 
--- a call that is known leaves the hall, and gets the answer noted
-pub known-step : (h : HallState) (k : ℕ) (d : Deed) (a : Outcome (Unit {0})) → Sane h → judge (h .log .records) (signed k d) ≡ known a → step h (keyed k d) ≡ record { hall = h; answer = answered a }
-known-step h k d a s e = rw (step-handled h (keyed k d) s, e)
+  -- what the key book then says to a call with its key
+  judged : (e : Deed) → judge (after (empty sizes) so-far .log .records) (signed k e) ≡ cond (same (contentOf d) (contentOf e)) (known (deal d (after (empty sizes) pre .waiting .bookings) .answer)) clash
+  unfolding seek
+  judged e =
+      let s : Sane (empty sizes) = sane-empty sizes small in
+      rw (after-append (empty sizes) pre (keyed k d ∷ mid))
+      (told-again (after (empty sizes) pre) k d (sane-after (empty sizes) pre s) (mark-original _ (sym (mark-after (empty sizes) pre k d s) ∙ first)) mid e)
 
--- so a later call with this key, for which it stands, is a resend
-pub named : (h : HallState) (cs : List Call) (k : ℕ) (d e : Deed) → Sane h → mark (signatures (h .log .records)) (keyed k d) ≡ original → same (contentOf d) (contentOf e) ≡ true → mark (signatures (after h (keyed k d ∷ cs) .log .records)) (keyed k e) ≡ resend
-named h cs k d e s m p =
-    let o : HallState = step h (keyed k d) .hall in
-    let t : Sane o = sane-step h (keyed k d) s in
-    let f : judge (h .log .records) (signed k d) ≡ fresh = mark-original (judge (h .log .records) (signed k d)) (rw (mark-judge (h .log .records) (signed k d) (s .readable)) at m) in
-    let n : KeyRecord = recorded (signed k d) (deal d (h .waiting .bookings) .answer) in
-    let j : judge (after o cs .log .records) (signed k e) ≡ known (deal d (h .waiting .bookings) .answer) =
-    judge-known (after o cs .log .records) (signed k e) n (deal d (h .waiting .bookings) .answer) (found-after k n o cs t (noted h k d s f))
-    p (read-back d (h .waiting .bookings)) in
-    mark-judge (after o cs .log .records) (signed k e) (sane-after o cs t .readable) ∙ ap toMark j
+  -- and what such a call is
+  marked : (e : Deed) → mark (originals [] so-far) (keyed k e) ≡ toMark (judge (after (empty sizes) so-far .log .records) (signed k e))
+  unfolding seek
+  marked e = mark-after (empty sizes) so-far k e (sane-empty sizes small)
+
+  -- the same again is a resend
+  again : mark (originals [] so-far) (keyed k d) ≡ resend
+  again = marked d ∙ ap toMark (judged d ∙ cond-true _ _ _ (same-self d))
+
+  -- any other is neither original nor resend, is refused with 7, and leaves the hall
+  pub clashing : (e : Deed) → (d ≡ e → ⊥) → Clashing sizes so-far (keyed k e)
+  clashing e other =
+      let j : judge (after (empty sizes) so-far .log .records) (signed k e) ≡ clash = judged e ∙ cond-false _ _ _ (same-differs d e other) in
+      record {
+        marked = marked e ∙ ap toMark j;
+        turned = step-judged (after (empty sizes) so-far) k e clash (sane-after (empty sizes) so-far (sane-empty sizes small) .bounded .within) j;
+      }
+
+-- an original that comes again is a resend, whatever the sizes are: the calls alone say so, and any sizes do to prove it
+pub named : (pre mid : List Call) (c : Call) → mark (originals [] pre) c ≡ original → mark (originals [] (pre ++ (c ∷ mid))) c ≡ resend
+unfolding seek
+named pre mid (keyed k d) m = again [] refl pre mid k d m
+named pre mid (round c) m = never cc
+named pre mid (no-kind g s) m = never cc

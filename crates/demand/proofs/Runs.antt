@@ -4,9 +4,10 @@ use mathlib.Core.List.{List, _∷_, _++_}
 use Rattle.seating.specs.declared.TeamComposition.{TeamComposition}
 use Rattle.hall.specs.Hall.{HallState, Turn, empty}
 use Rattle.demand.specs.Calls.{Call, Answer, answered, Step, rounded, step, after, answers}
-use Rattle.demand.specs.Runs.{Met, keyed-met, round-met, no-kind-met, Run, ended, called, Told, Kept}
+use Rattle.demand.specs.Runs.{Met, keyed-met, round-met, no-kind-met, Run, ended, called, Told, Kept, KeptFrom}
 use Rattle.demand.proofs.Resend.{after-append}
 use Rattle.demand.proofs.Fair.{fair}
+use Rattle.demand.proofs.Older.{older}
 use Rattle.demand.proofs.Demand.{answers-append, demand3}
 
 -- what a call that met its promise gives is its step
@@ -40,3 +41,7 @@ told-on h k l cs ds rs ts a b =
 -- demand 3 and fairness of every run from an empty hall
 pub demand3-of-runs : (sizes : List TeamComposition) (calls : List Call) (rs : List Answer) (l : HallState) → Run (empty sizes) calls rs l → Kept sizes calls rs l
 demand3-of-runs sizes calls rs l r = record { told = run-told (empty sizes) calls rs l r; demand = demand3 sizes calls; fair = λ pre post g e. fair sizes pre post g }
+
+-- what older notes answer, in every run from a hall that is handed in
+pub older-of-runs : (h : HallState) (calls : List Call) (rs : List Answer) (l : HallState) → Run h calls rs l → KeptFrom h calls rs l
+older-of-runs h calls rs l r = record { told = run-told h calls rs l r; older = older h calls }

@@ -1,13 +1,15 @@
 -- Resends change nothing, so any of them may be left out.
+use Prim.Native.Nat.{ℕ}
 use mathlib.Core.Path.{_≡_, refl, sym}
 use mathlib.Core.Bool.{Bool, true, _&&_}
 use mathlib.Core.List.{List, [], _∷_, map-append}
 use Rattle.base.proofs.Cases.{cases, never}
 use Rattle.base.proofs.Checks.{both-hold}
-use Rattle.hall.specs.Hall.{HallState, deal, signed, Judgement, known, clash, full, fresh, judge, turn}
+use Rattle.hall.specs.Hall.{HallState, Deed, signed, Judgement, known, clash, full, fresh, judge}
 use Rattle.demand.specs.Calls.{Call, keyed, round, no-kind, step, after, answers, growBy, mark, grow, originals, isResend, leave, thin}
 use Rattle.demand.proofs.Keys.{signatureOf, signatures, toMark, mark-judge}
-use Rattle.demand.proofs.Orderly.{Sane, handled, step-handled, sane-step, log-stays}
+use Rattle.demand.proofs.Handled.{turning, handled, step-handled, log-stays}
+use Rattle.demand.proofs.Orderly.{Sane, sane-step, sane-after}
 
 -- ---- the originals so far are those whose notes the key book has
 
@@ -17,7 +19,7 @@ grow-handled h (round c) s = rw (log-stays h c) refl
 grow-handled h (no-kind g x) s = refl
 grow-handled h (keyed k d) s = rw (mark-judge (h .log .records) (signed k d) (s .readable)) (go (judge (h .log .records) (signed k d)))
   where
-    go : (v : Judgement) → growBy (signatures (h .log .records)) (signed k d) (toMark v) ≡ signatures (turn h (signed k d) (deal d (h .waiting .bookings)) v .hall .log .records)
+    go : (v : Judgement) → growBy (signatures (h .log .records)) (signed k d) (toMark v) ≡ signatures (turning h k d v .hall .log .records)
     go (known a) = refl
     go clash = refl
     go full = refl
@@ -25,12 +27,16 @@ grow-handled h (keyed k d) s = rw (mark-judge (h .log .records) (signed k d) (s 
 
 -- and so does a step
 pub grow-step : (h : HallState) (c : Call) → Sane h → grow (signatures (h .log .records)) c ≡ signatures (step h c .hall .log .records)
-grow-step h c s = rw (step-handled h c s) (grow-handled h c s)
+grow-step h c s = rw (step-handled h c (s .bounded .within)) (grow-handled h c s)
 
 -- and so do any calls
-pub grow-after : (h : HallState) (cs : List Call) → Sane h → originals (signatures (h .log .records)) cs ≡ signatures (after h cs .log .records)
+grow-after : (h : HallState) (cs : List Call) → Sane h → originals (signatures (h .log .records)) cs ≡ signatures (after h cs .log .records)
 grow-after h [] s = refl
 grow-after h (c ∷ cs) s = rw (grow-step h c s) (grow-after (step h c .hall) cs (sane-step h c s))
+
+-- so behind any calls a keyed call is what the book says of it
+pub mark-after : (h : HallState) (cs : List Call) (k : ℕ) (d : Deed) → Sane h → mark (originals (signatures (h .log .records)) cs) (keyed k d) ≡ toMark (judge (after h cs .log .records) (signed k d))
+mark-after h cs k d s = rw (grow-after h cs s) (mark-judge (after h cs .log .records) (signed k d) (sane-after h cs s .readable))
 
 -- ---- a resend leaves the hall
 
@@ -40,7 +46,7 @@ resend-handled h (round c) s e = never cc
 resend-handled h (no-kind g x) s e = never cc
 resend-handled h (keyed k d) s e = go (judge (h .log .records) (signed k d)) (rw (mark-judge (h .log .records) (signed k d) (s .readable)) at e)
   where
-    go : (v : Judgement) → isResend (toMark v) ≡ true → turn h (signed k d) (deal d (h .waiting .bookings)) v .hall ≡ h
+    go : (v : Judgement) → isResend (toMark v) ≡ true → turning h k d v .hall ≡ h
     go (known a) q = refl
     go clash q = refl
     go full q = refl
@@ -48,7 +54,7 @@ resend-handled h (keyed k d) s e = go (judge (h .log .records) (signed k d)) (rw
 
 -- and so does a step
 resend-stays : (h : HallState) (c : Call) → Sane h → isResend (mark (signatures (h .log .records)) c) ≡ true → step h c .hall ≡ h
-resend-stays h c s e = rw (step-handled h c s) (resend-handled h c s e)
+resend-stays h c s e = rw (step-handled h c (s .bounded .within)) (resend-handled h c s e)
 
 -- ---- any resends left out: the hall ends alike, and all other calls answer alike
 

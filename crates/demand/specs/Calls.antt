@@ -1,5 +1,5 @@
--- Document 01, "Hall (added)", with the dispatches of document 02, 2.4: lists of calls, their originals and resends, and the numbers that
--- demand 3 speaks of.
+-- Document 01, "Hall (added)", with the dispatches of document 02, 2.4, and the resends of 2.5: lists of calls, their originals and resends,
+-- and the numbers that demand 3 speaks of.
 use Prim.Native.Nat.{ℕ, _+_}
 use mathlib.Core.Bool.{Bool, true, false, cond, _&&_}
 use mathlib.Core.List.{List, [], _∷_, _++_}
@@ -24,16 +24,6 @@ pub data Call : Type 0 where
   round : RoundCall → Call
   -- a full round brought in numbers, one of whose soft kinds is none: just its game and its sheets matter
   no-kind : ℕ → Sheets → Call
-
--- the kind of a keyed call, 0 a booking and 1 a withdrawal
-abbrev pub kindOf : Deed → ℕ
-kindOf (book b) = 0
-kindOf (withdraw p) = 1
-
--- and its guest
-abbrev pub playerOf : Deed → ℕ
-playerOf (book b) = b .player
-playerOf (withdraw p) = p
 
 -- ---- what they do
 
@@ -81,7 +71,7 @@ pub data Mark : Type 0 where
   other : Mark
 
 -- "An original is the first call with its key, for the first 1,024 different keys in the list. A resend is a later call with an
--- original's key, kind and guest."
+-- original's key", "equal in this finer way"
 abbrev pub markBy : ℕ → Signature → Option Signature → Mark
 markBy n s none = cond (ltb n 1024) original other
 markBy n s (some t) = cond (same (t .content) (s .content)) resend other

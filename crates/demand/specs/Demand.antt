@@ -7,15 +7,15 @@ use mathlib.Core.List.{List, [], _∷_, _++_, map}
 use mathlib.Core.Option.{none, some}
 use lib.ListN.{length}
 use Rattle.base.specs.Refusals.{Outcome, refused, gives}
-use Rattle.base.specs.Lists.{member, Distinct}
+use Rattle.base.specs.Lists.{any, member, Distinct}
 use Rattle.seating.specs.declared.TeamComposition.{TeamComposition}
-use Rattle.seating.specs.Seating.{Sheets}
+use Rattle.seating.specs.Seating.{Sheets, sizesOver}
 use Rattle.seating.specs.Seats.{Seating}
 use Rattle.choice.specs.Full.{Terms}
 use Rattle.hall.specs.Games.{noLastGame, sizesFor, eligible}
 use Rattle.hall.specs.Hall.{HallState, awaiting, entryOf, KeyRecord, logging, empty, Deed}
 use Rattle.hall.specs.Rounds.{RoundCall, full, of-game, gameOf, sizesIn, entriesIn, FullRound}
-use Rattle.demand.specs.Calls.{Call, keyed, round, no-kind, noKindRefusal, kindOf, playerOf, Answer, answered, handed, step, after, answers, mark, original, resend, originals, leave, thin, keysOf, different, matchesHanded, acceptedIn, withdrawnIn, seatedIn, replay}
+use Rattle.demand.specs.Calls.{Call, keyed, round, no-kind, noKindRefusal, Answer, answered, handed, step, after, answers, mark, original, resend, other, originals, leave, thin, keysOf, different, matchesHanded, acceptedIn, withdrawnIn, seatedIn, replay}
 
 -- ---- what holds of the hall at every moment
 
@@ -40,20 +40,19 @@ pub record First (pre : List Call) (k : ℕ) : Type 0 where
   pub early : length (different [] (keysOf pre)) < 1024
 
 module _ (sizes : List TeamComposition) where
-  -- the call behind `pre` has an original there; it answers as the original did, and leaves the hall
+  -- the call behind `pre` has its original there, which is the very same call; it answers as the original did, and leaves the hall
   pub record Resent (pre : List Call) (c : Call) : Type 0 where
-    pub key : ℕ
-    pub deed : Deed
-    pub first : Deed
     pub before : List Call
     pub between : List Call
-    pub call : c ≡ keyed key deed
-    pub earlier : pre ≡ before ++ (keyed key first ∷ between)
-    pub marked : mark (originals [] before) (keyed key first) ≡ original
-    pub kind : kindOf first ≡ kindOf deed
-    pub player : playerOf first ≡ playerOf deed
+    pub earlier : pre ≡ before ++ (c ∷ between)
+    pub marked : mark (originals [] before) c ≡ original
     pub hall : step (after (empty sizes) pre) c .hall ≡ after (empty sizes) pre
-    pub answer : step (after (empty sizes) pre) c .answer ≡ step (after (empty sizes) before) (keyed key first) .answer
+    pub answer : step (after (empty sizes) pre) c .answer ≡ step (after (empty sizes) before) c .answer
+
+  -- the call behind `pre` is neither original nor resend, is refused with 7, and leaves the hall
+  pub record Clashing (pre : List Call) (c : Call) : Type 0 where
+    pub marked : mark (originals [] pre) c ≡ other
+    pub turned : step (after (empty sizes) pre) c ≡ record { hall = after (empty sizes) pre; answer = answered (refused 7) }
 
   -- the list without the calls named: the hall ends alike, and all other calls answer alike
   pub record Thinned (m : List Bool) (calls : List Call) : Type 0 where
@@ -82,10 +81,13 @@ pub record Demand3 (sizes : List TeamComposition) (calls : List Call) : Type 0 w
   -- an original is the first call with its key, for the first 1,024 different keys
   pub firsts : (pre post : List Call) (k : ℕ) (d : Deed) → calls ≡ pre ++ (keyed k d ∷ post) →
       (mark (originals [] pre) (keyed k d) ≡ original) ↔ First pre k
-  -- a later call with an original's key, kind and guest is a resend
-  pub named : (pre mid post : List Call) (k : ℕ) (d e : Deed) → calls ≡ pre ++ (keyed k d ∷ (mid ++ (keyed k e ∷ post))) →
-      mark (originals [] pre) (keyed k d) ≡ original → kindOf d ≡ kindOf e → playerOf d ≡ playerOf e →
-      mark (originals [] (pre ++ (keyed k d ∷ mid))) (keyed k e) ≡ resend
+  -- an original that comes again is a resend
+  pub named : (pre mid post : List Call) (c : Call) → calls ≡ pre ++ (c ∷ (mid ++ (c ∷ post))) →
+      mark (originals [] pre) c ≡ original → mark (originals [] (pre ++ (c ∷ mid))) c ≡ resend
+  -- a call under an original's key that differs from it, be it in one field of a booking, is refused with 7 and changes nothing: where a size is
+  -- over 8 all calls are refused before
+  pub clashes : (pre mid post : List Call) (k : ℕ) (d e : Deed) → calls ≡ pre ++ (keyed k d ∷ (mid ++ (keyed k e ∷ post))) →
+      mark (originals [] pre) (keyed k d) ≡ original → (d ≡ e → ⊥) → any sizesOver sizes ≡ false → Clashing sizes (pre ++ (keyed k d ∷ mid)) (keyed k e)
   -- and each resend answers as its original
   pub resends : (pre post : List Call) (c : Call) → calls ≡ pre ++ (c ∷ post) → mark (originals [] pre) c ≡ resend → Resent sizes pre c
   -- any resends left out, all other calls answer alike and the hall ends alike

@@ -1,4 +1,5 @@
 pub mod Calls
 pub mod Demand
 pub mod Fair
+pub mod Older
 pub mod Runs

@@ -9,6 +9,7 @@ use Rattle.hall.specs.Rounds.{RoundCall, RoundTurn, roundRule}
 use Rattle.demand.specs.Calls.{Call, keyed, round, no-kind, noKindRefusal, Answer, answered, rounded, turnedAway, after, answers}
 use Rattle.demand.specs.Demand.{Demand3}
 use Rattle.demand.specs.Fair.{Fair}
+use Rattle.demand.specs.Older.{Older}
 
 -- one call that met its promise: the hall that it got, the hall that it returned, and its answer
 pub data Met : HallState → Call → Answer → HallState → Type 0 where
@@ -32,3 +33,9 @@ pub record Kept (sizes : List TeamComposition) (calls : List Call) (rs : List An
   pub demand : Demand3 sizes calls
   -- and wherever it is cut in two, each game has its turns in the second part
   pub fair : (pre post : List Call) (g : ℕ) → calls ≡ pre ++ post → g < 8 → Fair (after (empty sizes) pre) post g
+
+-- and of every run from a hall that is handed in
+pub record KeptFrom (h : HallState) (calls : List Call) (rs : List Answer) (l : HallState) : Type 0 where
+  pub told : Told h calls rs l
+  -- bookings noted with their guest alone answer as before
+  pub older : Older h calls

@@ -31,7 +31,7 @@ use Rattle.candidate.specs.Exhaustive.{exhaustiveMatches}
 use Rattle.choice.specs.Full.{terms, chosen}
 use Rattle.hall.specs.declared.Booking.{Booking}
 use Rattle.hall.specs.Games.{unused, enough, circle}
-use Rattle.hall.specs.Hall.{HallState, awaiting, same, KeyRecord, logging, empty, book, withdraw, bookingAnswer, deal, answerIn, judge}
+use Rattle.hall.specs.Hall.{HallState, awaiting, guestAlone, same, KeyRecord, logging, empty, book, withdraw, bookingAnswer, deal, answerIn, judge}
 use Rattle.hall.specs.Rounds as Rounds
 use Rattle.hall.specs.Rounds.{of-game, dispatch, calling, findings}
 use Rattle.demand.specs.Calls as Calls
@@ -41,15 +41,18 @@ use Rattle.demand.proofs.Runs.{told-on}
 use Rattle.beam.specs.Beam.{expansions, stepped, steps, beamOf, beaming, beamMatches}
 use Rattle.greedy.specs.Greedy.{goesBefore, closer, nearest, filled, anchored, greedyMatches}
 
--- 100.0, 0.75, and the ratings of the table's guests and of the entries about 1000
+-- 100.0, 0.75, and the ratings of the table's guests and of the entries about 1000; a booking brings the bits
 abbrev hundred : Float
 hundred = ofBits binary64 0x4059_0000_0000_0000
 
 abbrev threeQuarters : Float
 threeQuarters = ofBits binary64 0x3fe8_0000_0000_0000
 
+abbrev thousandBits : ℕ
+thousandBits = 0x408f_4000_0000_0000
+
 abbrev thousand : Float
-thousand = ofBits binary64 0x408f_4000_0000_0000
+thousand = ofBits binary64 thousandBits
 
 abbrev r1280 : Float
 r1280 = ofBits binary64 0x4094_0000_0000_0000
@@ -123,7 +126,7 @@ came party = coming party 1 ∷ coming party 2 ∷ coming 0 3 ∷ []
 
 -- a guest of rating 1000 who waits for a game, or for game 0, and the booking under a key
 abbrev waiterFor : ℕ → ℕ → Booking
-waiterFor game player = record { player = player; joined = 0; rating = thousand; party = 0; role = 0; game = game }
+waiterFor game player = record { player = player; joined = 0; «rating_bits» = thousandBits; party = 0; role = 0; game = game }
 
 abbrev waiter : ℕ → Booking
 waiter = waiterFor 0
@@ -136,6 +139,25 @@ booking = bookingFor 0
 
 abbrev withdrawal : ℕ → ℕ → Call
 withdrawal key player = keyed key (withdraw player)
+
+-- bookings that are all sent under key 1
+abbrev sending : List Booking → List Call
+sending = map (λ b. keyed 1 (book b))
+
+-- guest 1 for game 0, with a joined time, rating bits, party and role; or just the first or the second of these, the others as in `waiter 1`
+abbrev bringing : ℕ → ℕ → ℕ → ℕ → Booking
+bringing joined bits party role = record { player = 1; joined = joined; «rating_bits» = bits; party = party; role = role; game = 0 }
+
+abbrev joinedAt : ℕ → Booking
+joinedAt joined = bringing joined thousandBits 0 0
+
+abbrev rated : ℕ → Booking
+rated bits = bringing 0 bits 0 0
+
+-- just one field differs from `waiter 1`: guest, game, joined time, rating bits, party, role
+abbrev changed : List Booking
+changed =
+    waiter 2 ∷ waiterFor 1 1 ∷ joinedAt 1 ∷ rated 0x408f_4000_0000_0001 ∷ bringing 0 thousandBits 7 0 ∷ bringing 0 thousandBits 0 3 ∷ []
 
 -- sheets of 64 places, of which some are written and the others hold what they held before: guest 0 and 0.0
 abbrev sheet : {A : Type 0} → List A → A → List A
@@ -197,12 +219,19 @@ chose players n = handing 1 players (zero ∷ []) n none
 abbrev turnedDown : ℕ → Answer
 turnedDown n = handed (record { answer = refused n; sheets = sheets [] [] }) 0 none
 
--- the note of a call: answer, key, kind and guest; or of one that was accepted
-abbrev notedAs : ℕ → ℕ → ℕ → ℕ → KeyRecord
-notedAs answer key kind player = record { key = key; content = record { kind = kind; player = player }; answer = answer }
+-- the note of a call: answer, key, kind and what it holds
+abbrev notedAs : ℕ → ℕ → ℕ → Booking → KeyRecord
+notedAs answer key kind held = record { key = key; content = record { kind = kind; held = held }; answer = answer }
 
-abbrev noted : ℕ → ℕ → ℕ → KeyRecord
-noted = notedAs 0
+-- of a booking for a game, or for game 0, that was accepted; of a withdrawal that was
+abbrev notedFor : ℕ → ℕ → ℕ → KeyRecord
+notedFor game key player = notedAs 0 key 0 (waiterFor game player)
+
+abbrev noted : ℕ → ℕ → KeyRecord
+noted = notedFor 0
+
+abbrev withdrawn : ℕ → ℕ → KeyRecord
+withdrawn key player = notedAs 0 key 1 (guestAlone player)
 
 -- the hall with these sizes, this last game served, these bookings and these notes
 abbrev leaving : List TeamComposition → ℕ → List Booking → List KeyRecord → HallState
@@ -223,10 +252,10 @@ abbrev phonedOn : List Answer
 phonedOn = accepted ∷ accepted ∷ accepted ∷ accepted ∷ paired 1 4 ∷ []
 
 abbrev phonedHall : HallState
-phonedHall = leaving oneGame 255 [] (noted 1 0 1 ∷ noted 2 0 2 ∷ noted 3 0 3 ∷ noted 4 1 3 ∷ [])
+phonedHall = leaving oneGame 255 [] (noted 1 1 ∷ noted 2 2 ∷ noted 3 3 ∷ withdrawn 4 3 ∷ [])
 
 abbrev phonedEnd : HallState
-phonedEnd = leaving oneGame 255 [] (noted 1 0 1 ∷ noted 2 0 2 ∷ noted 3 0 3 ∷ noted 4 1 3 ∷ noted 5 0 1 ∷ noted 6 0 4 ∷ [])
+phonedEnd = leaving oneGame 255 [] (noted 1 1 ∷ noted 2 2 ∷ noted 3 3 ∷ withdrawn 4 3 ∷ noted 5 1 ∷ noted 6 4 ∷ [])
 
 -- which of the calls of the second part are resends
 abbrev phoneAgain : List Bool
@@ -252,13 +281,14 @@ abbrev circledLast : List Answer
 circledLast = pairedIn (some 0) 5 6 ∷ handing 0 [] [] 0 none ∷ []
 
 abbrev circledHall : HallState
-circledHall = leaving threeGames 0 (waiterFor 3 1 ∷ waiterFor 3 2 ∷ []) (noted 1 0 1 ∷ noted 2 0 2 ∷ noted 3 0 3 ∷ noted 4 0 4 ∷ [])
+circledHall = leaving threeGames 0 (waiterFor 3 1 ∷ waiterFor 3 2 ∷ []) (notedFor 3 1 1 ∷ notedFor 3 2 2 ∷ noted 3 3 ∷ noted 4 4 ∷ [])
 
 abbrev circledHallOn : HallState
-circledHallOn = leaving threeGames 3 (waiter 5 ∷ waiter 6 ∷ []) (noted 1 0 1 ∷ noted 2 0 2 ∷ noted 3 0 3 ∷ noted 4 0 4 ∷ noted 5 0 5 ∷ noted 6 0 6 ∷ [])
+circledHallOn =
+    leaving threeGames 3 (waiter 5 ∷ waiter 6 ∷ []) (notedFor 3 1 1 ∷ notedFor 3 2 2 ∷ noted 3 3 ∷ noted 4 4 ∷ noted 5 5 ∷ noted 6 6 ∷ [])
 
 abbrev circledEnd : HallState
-circledEnd = leaving threeGames 0 [] (noted 1 0 1 ∷ noted 2 0 2 ∷ noted 3 0 3 ∷ noted 4 0 4 ∷ noted 5 0 5 ∷ noted 6 0 6 ∷ [])
+circledEnd = leaving threeGames 0 [] (notedFor 3 1 1 ∷ notedFor 3 2 2 ∷ noted 3 3 ∷ noted 4 4 ∷ noted 5 5 ∷ noted 6 6 ∷ [])
 
 -- which calls of a list are resends
 abbrev resends : List Call → List Bool
@@ -284,6 +314,8 @@ pub data Line : Type 0 where
   calls : List Call → List (Outcome (Unit {0})) → ℕ → Line
   -- calls from an empty hall with these sizes: which of them are resends, what each answers, and the hall at the end
   story : List TeamComposition → List Call → List Bool → List Answer → HallState → Line
+  -- keyed calls from a hall that is handed in: what each answers, and the hall is the same at the end
+  stays : HallState → List Call → List (Outcome (Unit {0})) → Line
   -- the games in their turn after the last one served
   turns : ℕ → List ℕ → Line
   -- calls from an empty hall with these sizes, and dispatches behind them: which game each of these serves
@@ -302,6 +334,7 @@ Holds (full s queue os m n) = chosen (terms rostered unconstrained false os (len
 Holds (atHome party parties friends best) = chosen (terms household (constrained parties) friends (Wait one ∷ []) 1) (sizes 1 1) (came party) ≡ gives (record { best = best; tried = 3 })
 Holds (calls cs os n) = (answers (empty oneGame) cs ≡ map answered os) × (length (after (empty oneGame) cs .waiting .bookings) ≡ n)
 Holds (story sizes cs rs os h) = (resends cs ≡ rs) × (Told (empty sizes) cs os h × Told (empty sizes) (thin rs cs) (thin rs os) h)
+Holds (stays h cs os) = Told h cs (map answered os) h
 Holds (turns last games) = circle last ≡ games
 Holds (serves sizes cs ds os) = map servedOf (answers (after (empty sizes) cs) ds) ≡ os
 Holds (pick reference queue e) = nearest reference [] queue ≡ some e
@@ -321,6 +354,10 @@ Holds (pick reference queue e) = nearest reference [] queue ≡ some e
 -- others. A game of 0+1 is served and forms nothing. Eight games that all have enough take eight dispatches, so fewer are not enough for
 -- the last of them. Refusal 13 of a booking is noted, and its resend gets it; 9 looks at all games. An unused game takes
 -- bookings, and its full round hands out the empty match, one choice tried; a round of no game gets 13.
+-- Document 02, 2.5: the same booking again gets its answer, and 7 where just one of the six fields differs; "Both zeros differ here, and so do
+-- two NaNs with other bits." A refused booking's key stands for all of it too: corrected it gets 7, and so does a known key's booking for
+-- no game or at a late time. A note of kind 2, in a hall handed in where a guest may wait twice, tells its answer to whatever its guest books,
+-- and 7 to another guest and to a withdrawal.
 abbrev pub lines : List Line
 lines =
     difference zero one
@@ -341,7 +378,7 @@ lines =
     (booking 1 1 ∷ booking 2 2 ∷ booking 3 3 ∷ choosingFor 0 ∷ [])
     (false ∷ false ∷ false ∷ false ∷ [])
     (accepted ∷ accepted ∷ accepted ∷ chose (2 ∷ 3 ∷ []) 3 ∷ [])
-    (leaving oneGame 255 (waiter 1 ∷ []) (noted 1 0 1 ∷ noted 2 0 2 ∷ noted 3 0 3 ∷ []))
+    (leaving oneGame 255 (waiter 1 ∷ []) (noted 1 1 ∷ noted 2 2 ∷ noted 3 3 ∷ []))
     ∷ calls (booking 7 1 ∷ []) (gives tt ∷ []) 1
     ∷ calls (booking 7 1 ∷ booking 7 1 ∷ []) (gives tt ∷ gives tt ∷ []) 1
     ∷ calls (booking 7 1 ∷ booking 7 2 ∷ []) (gives tt ∷ refused 7 ∷ []) 1
@@ -371,7 +408,7 @@ lines =
     (bookingFor 5 1 1 ∷ dispatching ∷ [])
     (false ∷ false ∷ [])
     (accepted ∷ handing 0 [] [] 0 (some 5) ∷ [])
-    (leaving threeGames 5 (waiterFor 5 1 ∷ []) (noted 1 0 1 ∷ []))
+    (leaving threeGames 5 (waiterFor 5 1 ∷ []) (notedFor 5 1 1 ∷ []))
     ∷ serves soloGames
     (bookingFor 0 10 1 ∷ bookingFor 1 11 2 ∷ bookingFor 2 12 3 ∷ bookingFor 3 13 4 ∷ bookingFor 4 14 5 ∷ bookingFor 5 15 6 ∷ bookingFor 6 16 7 ∷ bookingFor 7 17 8 ∷ [])
     (replicate 9 dispatching)
@@ -380,13 +417,37 @@ lines =
     (bookingFor 8 1 1 ∷ bookingFor 8 1 1 ∷ booking 1 2 ∷ booking 2 1 ∷ [])
     (false ∷ true ∷ false ∷ false ∷ [])
     (answered (refused 13) ∷ answered (refused 13) ∷ answered (refused 7) ∷ accepted ∷ [])
-    (leaving oneGame 255 (waiter 1 ∷ []) (notedAs 13 1 0 1 ∷ noted 2 0 1 ∷ []))
+    (leaving oneGame 255 (waiter 1 ∷ []) (notedAs 13 1 0 (waiterFor 8 1) ∷ noted 2 1 ∷ []))
     ∷ calls (booking 7 1 ∷ bookingFor 3 8 1 ∷ []) (gives tt ∷ refused 9 ∷ []) 1
     ∷ story oneGame
     (bookingFor 4 1 1 ∷ choosingFor 4 ∷ choosingFor 8 ∷ [])
     (false ∷ false ∷ false ∷ [])
     (accepted ∷ chose [] 1 ∷ turnedDown 13 ∷ [])
-    (leaving oneGame 255 (waiterFor 4 1 ∷ []) (noted 1 0 1 ∷ []))
+    (leaving oneGame 255 (waiterFor 4 1 ∷ []) (notedFor 4 1 1 ∷ []))
+    ∷ story oneGame
+    (sending (waiter 1 ∷ changed ++ (waiter 1 ∷ [])))
+    (replicate 7 false ++ (true ∷ []))
+    (accepted ∷ replicate 6 (answered (refused 7)) ++ (accepted ∷ []))
+    (leaving oneGame 255 (waiter 1 ∷ []) (noted 1 1 ∷ []))
+    ∷ calls (sending (rated 0 ∷ rated 0x8000_0000_0000_0000 ∷ rated 0 ∷ [])) (gives tt ∷ refused 7 ∷ gives tt ∷ []) 1
+    ∷ calls
+    (sending (rated 0x7ff8_0000_0000_0000 ∷ rated 0x7ff8_0000_0000_0001 ∷ rated 0xfff8_0000_0000_0000 ∷ rated 0x7ff0_0000_0000_0001 ∷ rated 0x7ff8_0000_0000_0000 ∷ []))
+    (gives tt ∷ refused 7 ∷ refused 7 ∷ refused 7 ∷ gives tt ∷ [])
+    1
+    ∷ calls
+    (sending (joinedAt 9_007_199_254_740_993 ∷ joinedAt 9_007_199_254_740_993 ∷ joinedAt 9_007_199_254_740_992 ∷ []))
+    (refused 4 ∷ refused 4 ∷ refused 7 ∷ [])
+    0
+    ∷ calls (sending (waiterFor 200 1 ∷ waiterFor 200 1 ∷ waiter 1 ∷ [])) (refused 13 ∷ refused 13 ∷ refused 7 ∷ []) 0
+    ∷ calls (sending (waiter 1 ∷ waiterFor 200 1 ∷ joinedAt 9_007_199_254_740_993 ∷ [])) (gives tt ∷ refused 7 ∷ refused 7 ∷ []) 1
+    ∷ stays
+    (leaving oneGame 255 (waiter 1 ∷ waiter 1 ∷ []) (notedAs 0 1 2 (guestAlone 1) ∷ []))
+    (booking 1 1 ∷ keyed 1 (book (rated 0)) ∷ bookingFor 200 1 1 ∷ booking 1 2 ∷ withdrawal 1 1 ∷ [])
+    (gives tt ∷ gives tt ∷ gives tt ∷ refused 7 ∷ refused 7 ∷ [])
+    ∷ stays
+    (leaving oneGame 255 [] (notedAs 9 1 2 (waiterFor 3 1) ∷ []))
+    (booking 1 1 ∷ booking 1 2 ∷ withdrawal 1 1 ∷ [])
+    (refused 9 ∷ refused 7 ∷ refused 7 ∷ [])
     ∷ []
 
 -- the two stories, told part by part: each part reckons from a hall that is written out
@@ -407,4 +468,4 @@ circle-told =
 
 pub at-the-table : All Holds lines
 unfolding qualityAt absOf minOf dominatesOf anyBelow seek keep partySeated observe observations averageFrom goesBefore closer grown filled anchored insertBy expansions stepped steps beamOf seats secondsOf longer scoreFrom choices ways enough findings step judge bookingAnswer deal same answerIn markOf removeFirst distinct weighted latencyAt mul add div sub lt le eq ne isNan ofInt ofBits round
-at-the-table = (refl, (refl, (refl, (refl, (refl, (refl, ((refl, refl), ((refl, refl), (refl, (refl, (refl, (refl, (refl, (refl, ((refl, (record { answered = refl; left = refl }, record { answered = refl; left = refl })), ((refl, refl), ((refl, refl), ((refl, refl), ((refl, refl), ((refl, (phone-told, phone-thinned)), (refl, (refl, (refl, (refl, (refl, (refl, (refl, (refl, (refl, (refl, (refl, ((refl, (circle-told, circle-told)), ((refl, (record { answered = refl; left = refl }, record { answered = refl; left = refl })), (refl, ((refl, (record { answered = refl; left = refl }, record { answered = refl; left = refl })), ((refl, refl), ((refl, (record { answered = refl; left = refl }, record { answered = refl; left = refl })), tt)))))))))))))))))))))))))))))))))))))
+at-the-table = (refl, (refl, (refl, (refl, (refl, (refl, ((refl, refl), ((refl, refl), (refl, (refl, (refl, (refl, (refl, (refl, ((refl, (record { answered = refl; left = refl }, record { answered = refl; left = refl })), ((refl, refl), ((refl, refl), ((refl, refl), ((refl, refl), ((refl, (phone-told, phone-thinned)), (refl, (refl, (refl, (refl, (refl, (refl, (refl, (refl, (refl, (refl, (refl, ((refl, (circle-told, circle-told)), ((refl, (record { answered = refl; left = refl }, record { answered = refl; left = refl })), (refl, ((refl, (record { answered = refl; left = refl }, record { answered = refl; left = refl })), ((refl, refl), ((refl, (record { answered = refl; left = refl }, record { answered = refl; left = refl })), ((refl, (record { answered = refl; left = refl }, record { answered = refl; left = refl })), ((refl, refl), ((refl, refl), ((refl, refl), ((refl, refl), ((refl, refl), (record { answered = refl; left = refl }, (record { answered = refl; left = refl }, tt)))))))))))))))))))))))))))))))))))))))))))))

@@ -15,12 +15,12 @@ use Rattle.base.proofs.Cases.{cases}
 use Rattle.base.proofs.Arrays.{push}
 use Rattle.base.proofs.Loops.{place-hit, place-on, place-end}
 use Rattle.hall.specs.declared.Note.{Note}
-use Rattle.hall.specs.Hall.{Content, same, KeyRecord, recordOf, paired, logWith, logging, answerIn, lookUp}
-use Rattle.hall.specs.Steps.{heardOr, heardFrom}
+use Rattle.hall.specs.Hall.{Content, same, KeyRecord, contentIn, recordOf, paired, logWith, logging, guestAlone, book, contentOf, answerIn, lookUp}
+use Rattle.hall.specs.Steps.{heardOr, heardFrom, noteWith}
 
 -- what is read past the end of an array of notes
 abbrev pub noNote : Note
-noNote = record { player = 0; kind = 0; answer = 0 }
+noNote = noteWith (contentOf (book (guestAlone 0))) 0
 
 -- ---- the look-up, among the first n of a column
 
@@ -50,6 +50,13 @@ paired-length (k ∷ ks) [] e = absurd (omega arith)
 paired-length (k ∷ ks) (m ∷ ms) e =
     let i : length ks ≡ length ms = omega arith in
     ap suc (paired-length ks ms i)
+
+-- there are no more than keys, however many notes there are
+pub paired-fits : (ks : List ℕ) (ms : List Note) → length (paired ks ms) ≤ length ks
+unfolding paired
+paired-fits [] ms = omega arith
+paired-fits (k ∷ ks) [] = omega arith
+paired-fits (k ∷ ks) (m ∷ ms) = omega (arith, paired-fits ks ms)
 
 -- a key and its note behind the others are one more record
 pub paired-more : (ks : List ℕ) (ms : List Note) (k : ℕ) (m : Note) → length ks ≡ length ms → paired (ks ++ (k ∷ [])) (ms ++ (m ∷ [])) ≡ paired ks ms ++ (recordOf k m ∷ [])
@@ -122,16 +129,10 @@ module _ (ks : List ℕ) (ms : List Note) (n key at : ℕ) (long : length ks ≡
 -- ---- what a note says to a call with its key
 
 module _ (m : Note) (c : Content) where
-  -- another kind, or another guest
-  pub heard-kind : eqb (m .kind) (c .kind) ≡ false → refused 7 ≡ heardFrom m c
-  unfolding same
-  heard-kind e = rw e
+  -- the key stands for another call
+  pub heard-clash : same (contentIn m) c ≡ false → refused 7 ≡ heardFrom m c
+  heard-clash e = rw e
 
-  pub heard-player : m .kind ≡ c .kind → eqb (m .player) (c .player) ≡ false → refused 7 ≡ heardFrom m c
-  unfolding same
-  heard-player e f = cases (eqb (m .kind) (c .kind)) (λ t. rw (t, f)) (λ u. rw u)
-
-  -- the same kind and guest: the answer that was noted
-  pub heard-same : eqb (m .kind) (c .kind) ≡ true → m .kind ≡ c .kind → eqb (m .player) (c .player) ≡ true → {o : Outcome (Unit {0})} → o ≡ heardOr (answerIn (c .kind) (m .answer)) → o ≡ heardFrom m c
-  unfolding same
-  heard-same t e f h = h ∙ rw (t, f, e)
+  -- it stands for this one: the answer that was noted
+  pub heard-known : same (contentIn m) c ≡ true → {o : Outcome (Unit {0})} → o ≡ heardOr (answerIn (m .kind) (m .answer)) → o ≡ heardFrom m c
+  heard-known e h = rw e h

@@ -1,5 +1,6 @@
 pub mod Circle
 pub mod GameLaws
+pub mod Sameness
 pub mod KeyLaws
 pub mod WaitLaws
 pub mod Turns

@@ -5,7 +5,6 @@ use mathlib.Core.Bool.{Bool, true, false, cond, _||_}
 use mathlib.Core.List.{List, [], _∷_, _++_, map}
 use native.Mathlib.Omega.{arith}
 use lib.Dec.{ltb}
-use lib.Ieee.{nan}
 use lib.ListN.{length, take, drop, getD, set, length-set, length-take}
 use lib.Seq.{length-take-le}
 use Rattle.base.specs.Lists.{any, keep, place}
@@ -19,12 +18,12 @@ use Rattle.queue.specs.declared.QueueEntry.{QueueEntry}
 use Rattle.queue.proofs.Laws.{stands}
 use Rattle.hall.specs.declared.Booking.{Booking}
 use Rattle.hall.specs.Games.{eligible}
-use Rattle.hall.specs.Hall.{WaitState, waitsWith, awaiting, bookedBy, hasTimeOver, withoutGuest, entryOf}
+use Rattle.hall.specs.Hall.{WaitState, waitsWith, awaiting, bookedBy, hasTimeOver, withoutGuest, entryOf, guestAlone}
 use Rattle.hall.specs.Steps.{clockAmong}
 
 -- what is read past the end of an array of bookings
 abbrev pub noBooking : Booking
-noBooking = record { player = 0; joined = 0; rating = nan; party = 0; role = 0; game = 0 }
+noBooking = guestAlone 0
 
 -- the first k of an array, if they are these, wait alone
 pub stand : (bs : List Booking) (k : ℕ) (w : List Booking) → k ≤ length bs → take k bs ≡ w → waitsWith k bs ≡ awaiting w

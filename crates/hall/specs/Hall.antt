@@ -1,9 +1,11 @@
--- Document 01, "Hall (added)", with the games of document 02, 2.4: who waits, the key book, and what a booking or a withdrawal does.
+-- Document 01, "Hall (added)", with the games of document 02, 2.4, and the keys of 2.5: who waits, the key book, and what a booking or a
+-- withdrawal does.
 use Prim.Native.Nat.{ℕ}
 use mathlib.Core.Bool.{Bool, not, cond, _&&_, _||_}
 use mathlib.Core.List.{List, [], _∷_, _++_}
 use mathlib.Core.Option.{Option, none, some}
 use lib.Dec.{eqb, ltb}
+use lib.Ieee.{binary64, ofBits}
 use lib.ListN.{length, take}
 use Rattle.base.specs.Refusals.{Outcome, refused, gives}
 use Rattle.base.specs.Numbers.{refusalOf}
@@ -47,20 +49,39 @@ withoutGuest p = removeFirst (bookedBy p)
 abbrev pub withoutGuests : List ℕ → List Booking → List Booking
 withoutGuests ps = keep (λ b. not (member (b .player) ps))
 
--- the queue's entry of a booking: what a search reads of it
+-- the queue's entry of a booking: what a search reads of it. A booking brings its rating as bits; whatever NaN they are of, it is one NaN here.
 abbrev pub entryOf : Booking → QueueEntry
-entryOf b = record { player = b .player; joined = b .joined; rating = b .rating; party = b .party; role = b .role }
+entryOf b = record { player = b .player; joined = b .joined; rating = ofBits binary64 (b .«rating_bits»); party = b .party; role = b .role }
 
--- ---- the key book: "key, kind, guest, answer"
+-- ---- what a key stands for
 
--- what a key stands for: kind 0 is a booking, 1 a withdrawal
+-- kind 0 is a booking, 1 a withdrawal, 2 a booking noted when only its guest was. Of what the last two hold, just the guest counts.
 pub record Content : Type 0 where
   pub kind : ℕ
-  pub player : ℕ
+  pub held : Booking
 
--- does a key that stands for the first know a call of the second? "of the same kind and guest"
+-- a guest and nothing else
+abbrev pub guestAlone : ℕ → Booking
+guestAlone p = record { player = p; joined = 0; «rating_bits» = 0; party = 0; role = 0; game = 0 }
+
+-- "the same only if guest, game, joined time, rating bits, party and role agree"
+abbrev pub sameBooking : Booking → Booking → Bool
+sameBooking a b =
+    bookedBy (b .player) a && (eqb (a .game) (b .game) && (eqb (a .joined) (b .joined)
+    && (eqb (a .«rating_bits») (b .«rating_bits») && (eqb (a .party) (b .party) && eqb (a .role) (b .role)))))
+
+-- the kind of the call that left a note of this kind
+abbrev pub callKind : ℕ → ℕ
+callKind kind = cond (eqb kind 2) 0 kind
+
+-- does a key that stands for the first know a call of the second? Whole bookings are compared; withdrawals, and "older notes, which hold only
+-- kind and guest", by kind and guest.
 unfoldable pub same : Content → Content → Bool
-same a b = eqb (a .kind) (b .kind) && eqb (a .player) (b .player)
+same a b =
+    eqb (callKind (a .kind)) (b .kind)
+    && cond (eqb (a .kind) 0) (sameBooking (a .held) (b .held)) (bookedBy (b .held .player) (a .held))
+
+-- ---- the key book: "key, kind, guest, answer", and of a booking all of it
 
 -- one keyed call that was answered; the answer as a number, 0 accepted, n refusal n
 pub record KeyRecord : Type 0 where
@@ -73,9 +94,14 @@ pub record LogState : Type 0 where
   pub size : ℕ
   pub records : List KeyRecord
 
+-- the booking in a note
+abbrev pub bookingIn : Note → Booking
+bookingIn m =
+    record { player = m .player; joined = m .joined; «rating_bits» = m .«rating_bits»; party = m .party; role = m .role; game = m .game }
+
 -- what a note says that its key stands for
 abbrev pub contentIn : Note → Content
-contentIn m = record { kind = m .kind; player = m .player }
+contentIn m = record { kind = m .kind; held = bookingIn m }
 
 -- a key and the note at its place
 abbrev pub recordOf : ℕ → Note → KeyRecord
@@ -166,8 +192,8 @@ pub record Signature : Type 0 where
   pub content : Content
 
 abbrev pub contentOf : Deed → Content
-contentOf (book b) = record { kind = 0; player = b .player }
-contentOf (withdraw p) = record { kind = 1; player = p }
+contentOf (book b) = record { kind = 0; held = b }
+contentOf (withdraw p) = record { kind = 1; held = guestAlone p }
 
 abbrev pub signed : ℕ → Deed → Signature
 signed k d = record { key = k; content = contentOf d }
@@ -176,7 +202,7 @@ signed k d = record { key = k; content = contentOf d }
 unfoldable pub answerIn : ℕ → ℕ → Option (Outcome (Unit {0}))
 answerIn kind n =
     cond (eqb n 0) (some (gives tt))
-    (cond (eqb kind 0)
+    (cond (eqb (callKind kind) 0)
     (cond (eqb n 4 || (eqb n 9 || (eqb n 10 || eqb n 13))) (some (refused n)) none)
     (cond (eqb kind 1 && eqb n 11) (some (refused n)) none))
 
@@ -188,7 +214,7 @@ recorded s a = record { key = s .key; content = s .content; answer = refusalOf a
 abbrev pub lookUp : ℕ → List KeyRecord → Option KeyRecord
 lookUp k = seek (λ r. eqb (r .key) k) some none
 
--- what the key book says to a call: "a known key of the same kind and guest gets its noted answer"; refusals 7 and 8; or it is new
+-- what the key book says to a call: the noted answer, to the same call; refusal 7 to "anything else under that key"; 8; or its key is new
 pub data Judgement : Type 0 where
   known : Outcome (Unit {0}) → Judgement
   clash : Judgement

@@ -33,7 +33,17 @@ heardFrom m c = cond (same (contentIn m) c) (heardOr (answerIn (m .kind) (m .ans
 
 -- a note of this content with this answer
 abbrev pub noteWith : Content → ℕ → Note
-noteWith c n = record { player = c .player; kind = c .kind; answer = n }
+noteWith c n =
+    record {
+      player = c .held .player;
+      joined = c .held .joined;
+      «rating_bits» = c .held .«rating_bits»;
+      party = c .held .party;
+      role = c .held .role;
+      game = c .held .game;
+      kind = c .kind;
+      answer = n;
+    }
 
 -- ---- rounds
 

@@ -21,21 +21,28 @@ pub mod games;
 // What the rounds hand out.
 pub mod rounds;
 
-// What a call brings beside its key, and what waits. Party 0 and role 0 mean none.
+// What a call brings beside its key, and what waits. The rating comes as its bits, since a key stands for these: two zeros differ, and two
+// NaNs. Party 0 and role 0 mean none.
 #[repr(C)]
 pub struct Booking {
     pub player: u64,
     pub joined: u64,
-    pub rating: f64,
+    pub rating_bits: u64,
     pub party: u64,
     pub role: u32,
     pub game: u8,
 }
 
-// What is noted beside a key. Kind 0 is a booking, 1 a withdrawal; answer 0 is accepted, n is refusal n.
+// What is noted beside a key. Kind 0 is a booking, with all its fields; 1 a withdrawal; 2 a booking noted when only its guest was: of the
+// last two just the guest counts, and no call makes a note of kind 2. Answer 0 is accepted, n is refusal n.
 #[repr(C)]
 pub struct Note {
     pub player: u64,
+    pub joined: u64,
+    pub rating_bits: u64,
+    pub party: u64,
+    pub role: u32,
+    pub game: u8,
     pub kind: u8,
     pub answer: u8,
 }

@@ -4,7 +4,7 @@ ghost use lib.Dec.{eqb};
 ghost use lib.ListN.{take};
 ghost use Rattle.base.specs.Numbers.{outcomeIn};
 ghost use Rattle.base.specs.Lists.{place};
-ghost use Rattle.hall.specs.Hall.{book, withdraw, contentOf, answerIn};
+ghost use Rattle.hall.specs.Hall.{sameBooking, same, bookingIn, contentIn, book, withdraw, contentOf, answerIn};
 ghost use Rattle.hall.specs.Steps.{heardOr, heardFrom, noteWith};
 use crate::Booking;
 use crate::Note;
@@ -61,17 +61,49 @@ fn withdrawal_heard(answer: u8) -> u8
     7
 }
 
+// Is this the booking that was noted, in every field?
+fn is_same(note: Note, booking: Booking) -> bool
+    ensures { λ r. ⌜ r ≡ sameBooking (bookingIn note) booking ⌝ }
+{
+    if note.player != booking.player {
+        return false;
+    }
+    if note.game != booking.game {
+        return false;
+    }
+    if note.joined != booking.joined {
+        return false;
+    }
+    if note.rating_bits != booking.rating_bits {
+        return false;
+    }
+    if note.party != booking.party {
+        return false;
+    }
+    note.role == booking.role
+}
+
+// Does the key of this note stand for the booking? All of it is compared, or just its guest where only the guest was noted.
+fn stands_for(note: Note, booking: Booking) -> bool
+    ensures { λ r. ⌜ r ≡ same (contentIn note) (contentOf (book booking)) ⌝ }
+{
+    if note.kind == 0 {
+        return is_same(note, booking);
+    }
+    if note.kind == 2 {
+        return note.player == booking.player;
+    }
+    false
+}
+
 // What a note says to a booking with its key.
 pub fn heard_booking(note: Note, booking: Booking) -> u8
     ensures { λ r. ⌜ outcomeIn r tt ≡ heardFrom note (contentOf (book booking)) ⌝ }
 {
-    if note.kind != 0 {
-        return 7;
+    if stands_for(note, booking) {
+        return booking_heard(note.answer);
     }
-    if note.player != booking.player {
-        return 7;
-    }
-    booking_heard(note.answer)
+    7
 }
 
 // What a note says to a withdrawal with its key.
@@ -93,17 +125,27 @@ pub fn booking_note(booking: Booking, answer: u8) -> Note
 {
     Note {
         player: booking.player,
+        joined: booking.joined,
+        rating_bits: booking.rating_bits,
+        party: booking.party,
+        role: booking.role,
+        game: booking.game,
         kind: 0,
         answer: answer,
     }
 }
 
-// The note of a withdrawal that got this answer.
+// The note of a withdrawal that got this answer: just its guest.
 pub fn withdrawal_note(player: u64, answer: u8) -> Note
     ensures { λ r. ⌜ r ≡ noteWith (contentOf (withdraw player)) answer ⌝ }
 {
     Note {
         player: player,
+        joined: 0,
+        rating_bits: 0,
+        party: 0,
+        role: 0,
+        game: 0,
         kind: 1,
         answer: answer,
     }

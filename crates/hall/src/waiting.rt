@@ -26,7 +26,7 @@ impl Booking {
         QueueEntry {
             player: self.player,
             joined: self.joined,
-            rating: self.rating,
+            rating: base::from_bits(self.rating_bits),
             party: self.party,
             role: self.role,
         }

@@ -15,6 +15,10 @@ use Rattle.hall.proofs.WaitLaws.{stand, joined}
 use Rattle.capi.proofs.halls.yilgashe_hall_book.Statement.{statement}
 use Rattle.capi.proofs.halls.yilgashe_hall_book.Tie as tie
 
+-- the notes are an array of 1,024
+places : (c : tie.Start) → length (c .args .hall .notes) ≡ 1024
+places c = search (unmapped, needs)
+
 is-over-requires : tie.Need-is-over-requires
 is-over-requires c κs = search needs
 
@@ -56,7 +60,7 @@ returns-2 c =
     let few : h .waiting ≤ 64 = u .0 in
     let fits : h .noted ≤ 1024 = u .1 in
     let long : length (h .keys) ≡ 1024 = search needs in
-    let wide : length (h .notes) ≡ 1024 = search (unmapped, needs) in
+    let wide : length (h .notes) ≡ 1024 = places (c .before .before .before .before .before .before .before .before .before .before) in
     turned-seen (h .bookings) (h .waiting) (h .keys) (h .notes) (h .noted) (h .sizes) (h .served) (s .key) (book (s .booking)) (c .before .before .before .before .before .before .before .before .is-over .ensures) (c .before .before .before .before .before .before .before .if1 .left) long wide fits _ (c .before .before .before .place-of .ensures) (c .before .before .if2 .taken) (c .heard-booking .result) (c .heard-booking .ensures)
 
 returns-3 : tie.Need-returns-3
@@ -67,7 +71,7 @@ returns-3 c =
     let few : h .waiting ≤ 64 = u .0 in
     let fits : h .noted ≤ 1024 = u .1 in
     let long : length (h .keys) ≡ 1024 = search needs in
-    let wide : length (h .notes) ≡ 1024 = search (unmapped, needs) in
+    let wide : length (h .notes) ≡ 1024 = places (c .before .before .before .before .before .before .before .before .before) in
     turned-full (h .bookings) (h .waiting) (h .keys) (h .notes) (h .noted) (h .sizes) (h .served) (s .key) (book (s .booking)) (c .before .before .before .before .before .before .before .is-over .ensures) (c .before .before .before .before .before .before .if1 .left) long wide fits _ (c .before .before .place-of .ensures) (c .before .if2 .left) (c .if3 .taken)
 
 waits-requires : tie.Need-waits-requires
@@ -123,7 +127,7 @@ returns-4 c =
     let few : h .waiting ≤ 64 = u .0 in
     let fits : h .noted ≤ 1024 = u .1 in
     let long : length (h .keys) ≡ 1024 = search needs in
-    let wide : length (h .notes) ≡ 1024 = search (unmapped, needs) in
+    let wide : length (h .notes) ≡ 1024 = places (c .before .before .before .before .before .before .before .before .before .before .before .before .before .before) in
     let all : length (h .bookings) ≡ 64 = search (unmapped, needs) in
     let room : h .waiting < 64 = accepted-room (s .booking) _ (h .waiting) (c .before .before .booking-answer .result) (c .before .before .booking-answer .ensures) (c .if4 .taken) in
     let many : length (take (h .waiting) (h .bookings)) ≡ h .waiting = length-take-le (h .waiting) (h .bookings) (omega arith) in
@@ -140,7 +144,7 @@ returns-5 c =
     let few : h .waiting ≤ 64 = u .0 in
     let fits : h .noted ≤ 1024 = u .1 in
     let long : length (h .keys) ≡ 1024 = search needs in
-    let wide : length (h .notes) ≡ 1024 = search (unmapped, needs) in
+    let wide : length (h .notes) ≡ 1024 = places (c .before .before .before .before .before .before .before .before .before .before .before .before .before .before) in
     let all : length (h .bookings) ≡ 64 = search (unmapped, needs) in
     let many : length (take (h .waiting) (h .bookings)) ≡ h .waiting = length-take-le (h .waiting) (h .bookings) (omega arith) in
     turned-fresh (h .bookings) (h .waiting) (h .keys) (h .notes) (h .noted) (h .sizes) (h .served) (s .key) (book (s .booking)) (c .before .before .before .before .before .before .before .before .before .before .before .before .is-over .ensures) (c .before .before .before .before .before .before .before .before .before .before .before .if1 .left) long wide fits _ (c .before .before .before .before .before .before .before .place-of .ensures) (c .before .before .before .before .before .before .if2 .left) (c .before .before .before .before .before .if3 .left) _

@@ -54,7 +54,7 @@ returns-2 c =
     let few : h .waiting ≤ 64 = u .0 in
     let fits : h .noted ≤ 1024 = u .1 in
     let long : length (h .keys) ≡ 1024 = search needs in
-    let wide : length (h .notes) ≡ 1024 = search (unmapped, needs) in
+    let wide : length (h .notes) ≡ 1024 = places (c .before .before .before .before .before .before .before .before .before .before) in
     turned-seen (h .bookings) (h .waiting) (h .keys) (h .notes) (h .noted) (h .sizes) (h .served) (s .key) (withdraw (s .player)) (c .before .before .before .before .before .before .before .before .is-over .ensures) (c .before .before .before .before .before .before .before .if1 .left) long wide fits _ (c .before .before .before .place-of .ensures) (c .before .before .if2 .taken) (c .heard-withdrawal .result) (c .heard-withdrawal .ensures)
 
 returns-3 : tie.Need-returns-3
@@ -65,7 +65,7 @@ returns-3 c =
     let few : h .waiting ≤ 64 = u .0 in
     let fits : h .noted ≤ 1024 = u .1 in
     let long : length (h .keys) ≡ 1024 = search needs in
-    let wide : length (h .notes) ≡ 1024 = search (unmapped, needs) in
+    let wide : length (h .notes) ≡ 1024 = places (c .before .before .before .before .before .before .before .before .before) in
     turned-full (h .bookings) (h .waiting) (h .keys) (h .notes) (h .noted) (h .sizes) (h .served) (s .key) (withdraw (s .player)) (c .before .before .before .before .before .before .before .is-over .ensures) (c .before .before .before .before .before .before .if1 .left) long wide fits _ (c .before .before .place-of .ensures) (c .before .if2 .left) (c .if3 .taken)
 
 waits-requires : tie.Need-waits-requires
