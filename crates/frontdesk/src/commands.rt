@@ -1,4 +1,5 @@
 // The commands, by the first word of a line. A line that cannot be served changes nothing.
+use crate::clash;
 use crate::complaints;
 use crate::desk::Desk;
 use crate::entries;
@@ -213,10 +214,14 @@ fn book(desk: Desk, text: &[u8], heard: Heard) -> Desk {
     let tally = desk.tally;
     let key = given.whole(fields::KEY);
     let game = byte(given.whole(fields::GAME));
-    let keyed = halls::yilgashe_hall_book(hall, key, entries::booking_of(entry, game));
+    let booking = entries::booking_of(entry, game);
+    let keyed = halls::yilgashe_hall_book(hall, key, booking);
     let next = told(desk, keyed, tally.with_accepted(game));
     if keyed.refusal == 0 {
         games::remark(game, sizes);
+    }
+    if keyed.refusal == 7 {
+        clash::booking(hall, key, booking, entries::left_to_row(desk.roster, given));
     }
     next
 }
@@ -236,7 +241,11 @@ fn withdraw(desk: Desk, text: &[u8], heard: Heard) -> Desk {
     let guest = given.whole(fields::GUEST);
     let game = games::of_guest(bookings, hall.waiting, guest);
     let keyed = halls::yilgashe_hall_withdraw(hall, key, guest);
-    told(desk, keyed, tally.with_withdrawn(game))
+    let next = told(desk, keyed, tally.with_withdrawn(game));
+    if keyed.refusal == 7 {
+        clash::withdrawal(hall, key, guest);
+    }
+    next
 }
 
 // Says the answer of a keyed call, and keeps its hall. The tally counts the call unless as many wait as before: it was refused then, or a

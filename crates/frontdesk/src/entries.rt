@@ -11,7 +11,10 @@ use roster::Observed;
 
 pub const NEEDED: u32 = fields::GUEST | fields::JOINED;
 
-pub const ALLOWED: u32 = NEEDED | fields::RATING | fields::PARTY | fields::ROLE;
+// What the guest's row gives where a line does not.
+const ROW: u32 = fields::RATING | fields::PARTY | fields::ROLE;
+
+pub const ALLOWED: u32 = NEEDED | ROW;
 
 pub enum Entered {
     // A complaint was made.
@@ -44,11 +47,19 @@ pub fn booking_of(entry: QueueEntry, game: u8) -> Booking {
     Booking {
         player: entry.player,
         joined: entry.joined,
-        rating: entry.rating,
+        rating_bits: base::to_bits(entry.rating),
         party: entry.party,
         role: entry.role,
         game: game,
     }
+}
+
+// The fields that a line leaves to the guest's row, as bits: none where there is no row.
+pub fn left_to_row(roster: Roster, given: Fields) -> u32 {
+    if !roster.has(given.whole(fields::GUEST)) {
+        return 0;
+    }
+    ROW & (given.seen ^ ROW)
 }
 
 // The rating that is given, or else the roster's.

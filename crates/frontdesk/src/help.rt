@@ -34,6 +34,12 @@ fn calls() {
     print::text(
         b"      each booking and withdrawal has a key of its own; a resend with its key is safe\n",
     );
+    print::text(
+        b"      a key stands for the whole booking: with any field changed, be it by a new row, it clashes\n",
+    );
+    print::text(
+        b"      a changed booking takes a new key; where the guest waits, withdraw first\n",
+    );
 }
 
 fn rounds() {

@@ -111,11 +111,30 @@ fn waiters(waiting: Queue, clock: u64) {
 
 // ---- the key book
 
+// An old book is a booking noted when only its guest was.
 fn call(kind: u8) {
     match kind {
         0 => print::text(b"  book    "),
+        2 => print::text(b"  old book"),
         _ => print::text(b"  withdraw"),
     }
+}
+
+// What a key stands for beside its guest, and - where its note has only the guest.
+fn booked(note: Note) {
+    if note.kind != 0 {
+        print::right(b"-", 6);
+        print::right(b"-", 12);
+        print::right(b"-", 12);
+        print::right(b"-", 7);
+        print::right(b"-", 6);
+        return;
+    }
+    print::whole(note.game as u64, 6);
+    print::time(note.joined, 12);
+    print::real(base::from_bits(note.rating_bits), 2, 12);
+    print::whole(note.party, 7);
+    print::whole(note.role as u64, 6);
 }
 
 // One key's line.
@@ -123,6 +142,7 @@ fn noted(key: u64, note: Note) {
     print::whole(key, 12);
     call(note.kind);
     print::whole(note.player, 12);
+    booked(note);
     print::text(b"  ");
     refusals::noted(note.answer);
     print::text(b"\n");
@@ -143,7 +163,9 @@ fn book(hall: Hall) {
         print::text(b"no keys\n");
         return;
     }
-    print::text(b"         key  call           guest  answer\n");
+    print::text(
+        b"         key  call           guest  game      joined      rating  party  role  answer\n",
+    );
     let mut i: usize = 0;
     while i < 1024 {
         if n <= i {

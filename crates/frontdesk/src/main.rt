@@ -61,6 +61,9 @@ mod listing;
 // The refusals, in their words.
 mod refusals;
 
+// Why a key clashes.
+mod clash;
+
 // Numbers in columns.
 mod print;
 

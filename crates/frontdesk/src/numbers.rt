@@ -180,12 +180,13 @@ fn starts_with_minus(word: &[u8]) -> bool {
     word[0] == b'-'
 }
 
-// A decimal number, with a minus or without.
+// A decimal number, with a minus or without. -0 is the other zero, since a key stands for a rating's bits.
 pub fn decimal(word: &[u8]) -> ReadDecimal {
     if starts_with_minus(word) {
         let read = digits_of(words::part(word, 1, word.len()));
+        let size = unsigned(read);
         return ReadDecimal {
-            value: 0.0 - unsigned(read),
+            value: -size,
             problem: decimal_problem(read),
         };
     }

@@ -55,8 +55,9 @@ pub fn sizes(a: usize, b: usize) {
     io::print_decimal(1, b as u64);
 }
 
-// A float as it is printed: its whole part and its digits behind the point.
+// A float as it is printed: its sign, its whole part and its digits behind the point.
 struct Printed {
+    minus: bool,
     whole: u64,
     digits: u64,
 }
@@ -112,14 +113,40 @@ fn fixed(x: f64, places: usize) -> Printed {
     let digits = rounded(x - std::num::nearest_u64_to_f64(whole), places);
     if digits < scale {
         return Printed {
+            minus: false,
             whole: whole,
             digits: digits,
         };
     }
     Printed {
+        minus: false,
         whole: std::num::wrapping_add_u64(whole, 1),
         digits: 0,
     }
+}
+
+// Is it printed in digits? Not where it is NaN, infinite or has too many.
+fn is_plain(x: f64) -> bool {
+    -18446744073709551616.0 < x && x < 18446744073709551616.0
+}
+
+// Such a float in its digits. What is printed as 0 has no sign.
+fn in_digits(x: f64, places: usize) -> Printed {
+    let mut shown = fixed(base::abs(x), places);
+    if shown.whole != 0 || shown.digits != 0 {
+        shown.minus = x < 0.0;
+    }
+    shown
+}
+
+// Do so many places tell two floats apart? Only where both are printed in digits.
+pub fn tell_apart(x: f64, y: f64, places: usize) -> bool {
+    if !is_plain(x) || !is_plain(y) {
+        return false;
+    }
+    let one = in_digits(x, places);
+    let other = in_digits(y, places);
+    one.minus != other.minus || one.whole != other.whole || one.digits != other.digits
 }
 
 // Every digit behind the point, with its zeros: those of 10^places + digits without the first.
@@ -135,34 +162,16 @@ fn behind_point(digits: u64, places: usize) {
 
 // A float with so many places, 1 to 4, at the right end of its column.
 pub fn real(x: f64, places: usize, width: usize) {
-    if x != x {
-        right(b"nan", width);
+    if !is_plain(x) {
+        named(x, width);
         return;
     }
-    if x < 0.0 {
-        signed(-x, true, places, width);
-        return;
-    }
-    signed(x, false, places, width);
-}
-
-// The same without its sign; `minus` says that it has one.
-fn signed(x: f64, minus: bool, places: usize, width: usize) {
-    if 18446744073709551616.0 <= x {
-        huge(x, minus, width);
-        return;
-    }
-    let shown = fixed(x, places);
-    let room = rest(rest(width, 1), places);
-    if shown.whole == 0 && shown.digits == 0 {
-        whole(0, room);
-    } else {
-        signed_whole(minus, shown.whole, room);
-    }
+    let shown = in_digits(x, places);
+    signed(shown.minus, shown.whole, rest(rest(width, 1), places));
     behind_point(shown.digits, places);
 }
 
-fn signed_whole(minus: bool, n: u64, width: usize) {
+fn signed(minus: bool, n: u64, width: usize) {
     let mut digits = [0u8; 20];
     let k = io::decimal(n, &mut digits);
     if minus {
@@ -175,16 +184,14 @@ fn signed_whole(minus: bool, n: u64, width: usize) {
 }
 
 // What has too many digits, or none.
-fn huge(x: f64, minus: bool, width: usize) {
-    if x == 1.0 / 0.0 {
-        if minus {
-            right(b"-inf", width);
-        } else {
-            right(b"inf", width);
-        }
-        return;
-    }
-    if minus {
+fn named(x: f64, width: usize) {
+    if x != x {
+        right(b"nan", width);
+    } else if x == 1.0 / 0.0 {
+        right(b"inf", width);
+    } else if x == -1.0 / 0.0 {
+        right(b"-inf", width);
+    } else if x < 0.0 {
         right(b"-huge", width);
     } else {
         right(b"huge", width);
@@ -194,5 +201,24 @@ fn huge(x: f64, minus: bool, width: usize) {
 // Nanoseconds as seconds with one place, at the right end of its column.
 pub fn wait(nanos: u64, width: usize) {
     real(queue::time::in_seconds(nanos), 1, rest(width, 1));
+    text(b"s");
+}
+
+// A time as it may be typed, with nothing left out: 90s, 1.5s, or in nanoseconds where it is finer.
+pub fn time(nanos: u64, width: usize) {
+    let tenths = nanos / 100000000;
+    if nanos % 100000000 != 0 {
+        whole(nanos, rest(width, 2));
+        text(b"ns");
+        return;
+    }
+    if tenths % 10 == 0 {
+        whole(tenths / 10, rest(width, 1));
+        text(b"s");
+        return;
+    }
+    whole(tenths / 10, rest(width, 3));
+    text(b".");
+    whole(tenths % 10, 0);
     text(b"s");
 }

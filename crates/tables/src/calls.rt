@@ -37,8 +37,9 @@ pub struct Call {
     pub kind: u8,
     pub key: u64,
     pub player: u64,
-    pub rating: f64,
+    pub rating_bits: u64,
     pub party: u64,
+    pub role: u32,
     pub time: u64,
     pub game: u8,
     pub width: usize,
@@ -66,8 +67,9 @@ pub fn booking(key: u64, player: u64, rating: f64, joined: u64) -> Call {
         kind: BOOKING,
         key: key,
         player: player,
-        rating: rating,
+        rating_bits: base::to_bits(rating),
         party: 0,
+        role: 0,
         time: joined,
         game: 0,
         width: 0,
@@ -80,8 +82,9 @@ pub fn withdrawal(key: u64, player: u64) -> Call {
         kind: WITHDRAWAL,
         key: key,
         player: player,
-        rating: 0.0,
+        rating_bits: 0,
         party: 0,
+        role: 0,
         time: 0,
         game: 0,
         width: 0,
@@ -94,8 +97,9 @@ pub fn round(kind: u8, game: u8, width: usize, clock: u64, fault: u8) -> Call {
         kind: kind,
         key: 0,
         player: 0,
-        rating: 0.0,
+        rating_bits: 0,
         party: 0,
+        role: 0,
         time: clock,
         game: game,
         width: width,
@@ -109,6 +113,18 @@ pub fn dispatch(clock: u64, fault: u8) -> Call {
 
 pub fn is_keyed(call: Call) -> bool {
     call.kind < GREEDY
+}
+
+// What a keyed call brings beside its key: a withdrawal just its guest.
+pub fn booking_of(call: Call) -> Booking {
+    Booking {
+        player: call.player,
+        joined: call.time,
+        rating_bits: call.rating_bits,
+        party: call.party,
+        role: call.role,
+        game: call.game,
+    }
 }
 
 // The game whose guests a round seats.
@@ -173,15 +189,7 @@ pub fn handed(made: Rounded) -> Answer {
 // ---- making a call
 
 fn book(hall: Hall, call: Call) -> Made {
-    let booking = Booking {
-        player: call.player,
-        joined: call.time,
-        rating: call.rating,
-        party: call.party,
-        role: 0,
-        game: call.game,
-    };
-    keyed(halls::yilgashe_hall_book(hall, call.key, booking))
+    keyed(halls::yilgashe_hall_book(hall, call.key, booking_of(call)))
 }
 
 fn greedy(
@@ -326,6 +334,18 @@ fn round_by(
     )
 }
 
+// A round by the roster's ratings.
+fn rated(
+    hall: Hall,
+    call: Call,
+    roster: Roster,
+    players: &mut [u64],
+    qualities: &mut [f64],
+) -> Made {
+    let ratings = roster.ratings;
+    round_by(hall, call, roster, &ratings, players, qualities)
+}
+
 // A round with the fault that it brings.
 fn make_round(
     hall: Hall,
@@ -334,16 +354,15 @@ fn make_round(
     players: &mut [u64; 64],
     qualities: &mut [f64; 64],
 ) -> Made {
-    let ratings = roster.ratings;
     if call.fault == FEW_RATINGS {
         let few = [1000.0f64; 127];
         return round_by(hall, call, roster, &few, players, qualities);
     }
     if call.fault == SHORT_SHEETS {
         let mut short = [0u64; 63];
-        return round_by(hall, call, roster, &ratings, &mut short, qualities);
+        return rated(hall, call, roster, &mut short, qualities);
     }
-    round_by(hall, call, roster, &ratings, players, qualities)
+    rated(hall, call, roster, players, qualities)
 }
 
 pub fn make(

@@ -19,7 +19,7 @@ pub fn are_same(x: Answer, y: Answer) -> bool {
 }
 
 // Compared bit for bit, but NaNs are equal and both zeros are equal.
-fn is_same_float(x: f64, y: f64) -> bool {
+pub fn is_same_float(x: f64, y: f64) -> bool {
     if x != x {
         return y != y;
     }
@@ -50,11 +50,12 @@ pub fn are_same_qualities(x: &[f64; 64], y: &[f64; 64]) -> bool {
 
 // ---- halls
 
-fn is_same_booking(x: Booking, y: Booking) -> bool {
+// In every field, the rating by its bits.
+pub fn is_same_booking(x: Booking, y: Booking) -> bool {
     if x.player != y.player || x.joined != y.joined || x.game != y.game {
         return false;
     }
-    is_same_float(x.rating, y.rating) && x.party == y.party && x.role == y.role
+    x.rating_bits == y.rating_bits && x.party == y.party && x.role == y.role
 }
 
 // The first n bookings.
@@ -81,8 +82,22 @@ fn are_same_keys(x: &[u64; 1024], y: &[u64; 1024], n: usize) -> bool {
     true
 }
 
+fn booking_in(note: Note) -> Booking {
+    Booking {
+        player: note.player,
+        joined: note.joined,
+        rating_bits: note.rating_bits,
+        party: note.party,
+        role: note.role,
+        game: note.game,
+    }
+}
+
 fn is_same_note(x: Note, y: Note) -> bool {
-    x.player == y.player && x.kind == y.kind && x.answer == y.answer
+    if x.kind != y.kind || x.answer != y.answer {
+        return false;
+    }
+    is_same_booking(booking_in(x), booking_in(y))
 }
 
 // The first n notes.

@@ -183,6 +183,17 @@ fn party(word: u64) -> u64 {
     }
 }
 
+// Mostly a rating that many have, at times one of two zeros or of two NaNs.
+fn rating_bits(word: u64) -> u64 {
+    match word % 16 {
+        0 => 0,
+        1 => 9223372036854775808,
+        2 => 9221120237041090560,
+        3 => 9221120237041090561,
+        _ => base::to_bits(rosters::rating(word / 16)),
+    }
+}
+
 // A booking, or one time in five a withdrawal.
 fn keyed(plan: Plan, word: u64) -> Call {
     let second = next(word);
@@ -191,14 +202,11 @@ fn keyed(plan: Plan, word: u64) -> Call {
     if second % 5 == 0 {
         return calls::withdrawal(key, player);
     }
-    let mut booking = calls::booking(
-        key,
-        player,
-        rosters::rating(second / 1024),
-        time(second / 8192),
-    );
     let third = next(second);
+    let mut booking = calls::booking(key, player, 0.0, time(second / 8192));
+    booking.rating_bits = rating_bits(third / 65536);
     booking.party = party(third);
+    booking.role = (third / 1048576 % 3) as u32;
     booking.game = game(third / 8, plan.games);
     booking
 }
@@ -212,15 +220,38 @@ fn fresh(list: u64, place: usize) -> Call {
     keyed(plan, word)
 }
 
-// One call in four is drawn as an earlier place draws it.
+// A rating with another sign or another last bit: the other zero, another NaN, a float beside it.
+fn other_bits(bits: u64, word: u64) -> u64 {
+    if word % 2 == 0 {
+        return bits ^ 9223372036854775808;
+    }
+    bits ^ 1
+}
+
+// A booking with one field changed; any other call as it is.
+fn changed(call: Call, word: u64) -> Call {
+    let mut other = call;
+    if call.kind != calls::BOOKING {
+        return other;
+    }
+    match word % 6 {
+        0 => other.player = call.player ^ 1,
+        1 => other.game = call.game ^ 1,
+        2 => other.time = call.time ^ 1,
+        3 => other.rating_bits = other_bits(call.rating_bits, word / 8),
+        4 => other.party = call.party ^ 1,
+        _ => other.role = call.role ^ 1,
+    }
+    other
+}
+
+// One call in four is drawn as an earlier place draws it, and one in eight so but for a field.
 pub fn call(list: u64, place: usize) -> Call {
     let word = next(next(next(word(list, place))));
-    if place == 0 {
-        return fresh(list, place);
+    let earlier = below(word / 8, place as u64);
+    match word % 8 {
+        0 | 1 => fresh(list, earlier as usize),
+        2 => changed(fresh(list, earlier as usize), next(word)),
+        _ => fresh(list, place),
     }
-    if word % 4 == 0 {
-        let earlier = below(word / 4, place as u64);
-        return fresh(list, earlier as usize);
-    }
-    fresh(list, place)
 }

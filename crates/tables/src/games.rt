@@ -2,9 +2,9 @@
 use crate::calls;
 use crate::lines;
 use crate::story;
-use crate::text;
 use calls::Call;
 use hall::Hall;
+use lines::told_as;
 use seating::TeamComposition;
 
 pub fn all() {
@@ -44,48 +44,41 @@ fn dispatch() -> Call {
     calls::dispatch(0, calls::SOUND)
 }
 
-// Each call meets the hall as it is given.
-fn told(words: &[u8], hall: Hall, call: Call) -> Hall {
-    text::say(words);
-    text::say(b": ");
-    lines::told(hall, call)
-}
-
 // Every call of a hall that may be over its limits. A round's game is looked at first.
 fn over_limits(words: &[u8], hall: Hall) {
-    told(words, hall, story::book(1, 4, 0));
-    told(words, hall, calls::withdrawal(1, 3));
-    told(words, hall, round(calls::GREEDY, 0));
-    told(words, hall, round(calls::BEAM, 1));
-    told(words, hall, round(calls::FULL, 0));
-    told(words, hall, round(calls::FULL, 8));
-    told(words, hall, dispatch());
+    told_as(words, hall, story::book(1, 4, 0));
+    told_as(words, hall, calls::withdrawal(1, 3));
+    told_as(words, hall, round(calls::GREEDY, 0));
+    told_as(words, hall, round(calls::BEAM, 1));
+    told_as(words, hall, round(calls::FULL, 0));
+    told_as(words, hall, round(calls::FULL, 8));
+    told_as(words, hall, dispatch());
 }
 
 // A game that is not used takes a booking. Its full round hands out the empty match, and the others form nothing.
 fn unused() {
     let words = b"game 7 is not used";
-    let hall = told(words, lines::three_waiting(0), story::book(1, 4, 7));
-    told(words, hall, round(calls::GREEDY, 7));
-    told(words, hall, round(calls::BEAM, 7));
-    told(words, hall, round(calls::FULL, 7));
+    let hall = told_as(words, lines::three_waiting(0), story::book(1, 4, 7));
+    told_as(words, hall, round(calls::GREEDY, 7));
+    told_as(words, hall, round(calls::BEAM, 7));
+    told_as(words, hall, round(calls::FULL, 7));
 }
 
 // Guests 1, 2 and 3 wait for game 0, and guests 4 and 5 for game 1. The one served last comes last in the circle.
 fn circle() {
     let words = b"games 0 and 1 have enough";
-    let one = told(words, lines::three_waiting(0), story::book(1, 4, 1));
-    let mut hall = told(words, one, story::book(2, 5, 1));
-    told(words, hall, dispatch());
+    let one = told_as(words, lines::three_waiting(0), story::book(1, 4, 1));
+    let mut hall = told_as(words, one, story::book(2, 5, 1));
+    told_as(words, hall, dispatch());
     hall.served = 0;
-    told(b"the same, game 0 served last", hall, dispatch());
+    told_as(b"the same, game 0 served last", hall, dispatch());
     hall.served = 1;
-    told(b"the same, game 1 served last", hall, dispatch());
+    told_as(b"the same, game 1 served last", hall, dispatch());
     hall.served = 7;
-    told(b"the same, game 7 served last", hall, dispatch());
+    told_as(b"the same, game 7 served last", hall, dispatch());
     hall.sizes[1] = TeamComposition { a: 2, b: 1 };
     hall.served = 0;
-    told(
+    told_as(
         b"game 1 is 2+1 and has too few, game 0 served last",
         hall,
         dispatch(),
@@ -94,7 +87,7 @@ fn circle() {
 
 // A game without a team A takes its turn all the same.
 fn forms_nothing() {
-    let hall = told(b"game 0 is 0+3", sized(0, 0, 3), dispatch());
-    told(b"game 0 is 0+3, after that", hall, dispatch());
-    told(b"game 0 is 0+4", sized(0, 0, 4), dispatch());
+    let hall = told_as(b"game 0 is 0+3", sized(0, 0, 3), dispatch());
+    told_as(b"game 0 is 0+3, after that", hall, dispatch());
+    told_as(b"game 0 is 0+4", sized(0, 0, 4), dispatch());
 }

@@ -231,6 +231,13 @@ pub fn told(hall: Hall, call: Call) -> Hall {
     after
 }
 
+// The same behind words on what is tried.
+pub fn told_as(words: &[u8], hall: Hall, call: Call) -> Hall {
+    text::say(words);
+    text::say(b": ");
+    told(hall, call)
+}
+
 // Each of the later calls meets the hall that the first one left.
 fn bookings() {
     let hall = told(
@@ -246,7 +253,7 @@ fn booked(player: u64, rating: f64, party: u64) -> Booking {
     Booking {
         player: player,
         joined: 0,
-        rating: rating,
+        rating_bits: base::to_bits(rating),
         party: party,
         role: 0,
         game: 0,

@@ -58,6 +58,15 @@ fn seats(hall: Hall, game: u8, matches: usize) -> usize {
     check::seats(matches, std::num::wrapping_add_usize(own.a, own.b))
 }
 
+// The refusal of a clash. Over its limits a hall gives 1 to all.
+fn clash_in(hall: Hall) -> u8 {
+    let sizes = hall.sizes;
+    if hall::is_over(hall.waiting, hall.noted, sizes, hall.served) {
+        return 1;
+    }
+    7
+}
+
 fn tell(run: Run, call: Call, resend: bool, answer: Answer, players: &[u64; 64]) {
     if run.told {
         let hall = run.whole;
@@ -124,6 +133,17 @@ impl Run {
             run.withdrawn = tally::add(self.withdrawn, 1);
         }
         run
+    }
+
+    // Another call under an original's key gets 7, and changes nothing in the hall.
+    fn clashed(self, before: Hall, answer: Answer, field: u8) -> Run {
+        let after = self.whole;
+        let tally = self.tally;
+        let more = tally.clashed(field);
+        let mut run = self;
+        run.tally = more;
+        let same = run.checked(check::is_same_hall(before, after));
+        same.checked(answer.refusal == clash_in(before))
     }
 
     // The call in the whole list; its sheets are left for comparing.
@@ -215,11 +235,13 @@ impl Run {
         if let Mark::Resend(noted) = mark {
             return self.again(call, roster, noted);
         }
+        let before = self.whole;
         let both = self.both(call, roster);
         let run = both.run;
         let answer = both.answer;
         match mark {
             Mark::Original => run.noted(call, answer),
+            Mark::Clash(field) => run.clashed(before, answer, field),
             _ => run,
         }
     }

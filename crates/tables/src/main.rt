@@ -1,4 +1,4 @@
-// The lines of document 01's table, of 2.3 and of 2.4, a list of calls that is told call by call, and drawn lists of calls: the program
+// The lines of document 01's table, of 2.3, of 2.4 and of 2.5, a list of calls that is told call by call, and drawn lists of calls: the program
 // says what the proved functions answer to them, and how many checks of the answers fail.
 
 // What is written.
@@ -15,6 +15,9 @@ mod lines;
 
 // The lines of several games.
 mod games;
+
+// The lines of keys that stand for whole bookings.
+mod keys;
 
 // Originals and resends.
 mod originals;
@@ -40,6 +43,7 @@ mod lists;
 fn main() {
     lines::all();
     games::all();
+    keys::all();
     let story = lists::make(0, tally::empty());
     text::say(b"the list above: ");
     tally::report(story);

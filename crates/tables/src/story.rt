@@ -1,5 +1,5 @@
-// A phone resends its bookings after a withdrawal and a round, among guests who are rated alike: nobody is seated for a resend. Then two
-// games take turns.
+// A phone resends its bookings after a withdrawal and a round, among guests who are rated alike: nobody is seated for a resend, nor for a
+// booking of another game under the key of one. Then two games take turns.
 use crate::calls;
 use crate::text;
 use calls::Answer;
@@ -8,7 +8,7 @@ use capi::halls::Games;
 use hall::Hall;
 use seating::TeamComposition;
 
-pub const CALLS: usize = 21;
+pub const CALLS: usize = 22;
 
 // Games 0 and 1 seat one against one, and the others are not used.
 pub fn games() -> Games {
@@ -38,8 +38,9 @@ pub fn call(place: usize) -> Call {
         4 => greedy(0),
         5 => book(1, 1, 0),
         6 => book(3, 3, 0),
-        7 => book(5, 1, 0),
-        8 => book(6, 4, 0),
+        7 => book(3, 3, 1),
+        8 => book(5, 1, 0),
+        9 => book(6, 4, 0),
         _ => later(place),
     }
 }
@@ -47,15 +48,15 @@ pub fn call(place: usize) -> Call {
 // The two games.
 fn later(place: usize) -> Call {
     match place {
-        9 => book(7, 2, 1),
-        10 => book(8, 3, 1),
-        11 => book(9, 3, 0),
-        12 => book(10, 8, 8),
+        10 => book(7, 2, 1),
+        11 => book(8, 3, 1),
+        12 => book(9, 3, 0),
         13 => book(10, 8, 8),
-        14 => greedy(8),
-        15 => calls::dispatch(0, calls::SOUND),
-        16 => book(11, 8, 0),
-        17 => book(12, 9, 0),
+        14 => book(10, 8, 8),
+        15 => greedy(8),
+        16 => calls::dispatch(0, calls::SOUND),
+        17 => book(11, 8, 0),
+        18 => book(12, 9, 0),
         _ => calls::dispatch(0, calls::SOUND),
     }
 }

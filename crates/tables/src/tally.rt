@@ -15,6 +15,8 @@ pub struct Tally {
     // How often in a row a game with enough was passed over, at most.
     pub passed: u64,
     pub refusals: [u64; 16],
+    // Clashes that are a booking with one field changed, by the field.
+    pub changed: [u64; 7],
     pub checks: u64,
     pub failed: u64,
 }
@@ -30,6 +32,7 @@ pub fn empty() -> Tally {
         idle: 0,
         passed: 0,
         refusals: [0u64; 16],
+        changed: [0u64; 7],
         checks: 0,
         failed: 0,
     }
@@ -71,6 +74,17 @@ impl Tally {
     pub fn resent(self) -> Tally {
         let mut tally = self;
         tally.resends = add(self.resends, 1);
+        tally
+    }
+
+    // One more clash, of this field alone or of more.
+    pub fn clashed(self, field: u8) -> Tally {
+        let i = field as usize;
+        let mut tally = self;
+        if i < 7 {
+            let n = add(tally.changed[i], 1);
+            tally.changed[i] = n;
+        }
         tally
     }
 
@@ -125,6 +139,18 @@ fn report_one(n: u64, words: &[u8]) {
     text::say(words);
 }
 
+// How often a booking came with one field changed.
+fn report_changed(counts: [u64; 7]) {
+    text::say(b", a key with one field changed: ");
+    report_one(counts[0], b" times the guest, ");
+    report_one(counts[1], b" the game, ");
+    report_one(counts[2], b" the joined time, ");
+    report_one(counts[3], b" the rating, ");
+    report_one(counts[6], b" its bits alone, ");
+    report_one(counts[4], b" the party, ");
+    report_one(counts[5], b" the role");
+}
+
 // The rest of a line.
 pub fn report(tally: Tally) {
     report_one(tally.calls, b" calls, ");
@@ -134,6 +160,8 @@ pub fn report(tally: Tally) {
     report_one(tally.served, b" dispatches to a game, ");
     report_one(tally.idle, b" to none, a game passed over at most ");
     report_one(tally.passed, b" times in a row");
+    let changed = tally.changed;
+    report_changed(changed);
     let refusals = tally.refusals;
     report_refusals(refusals);
     text::say(b"; ");
