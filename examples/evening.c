@@ -16,9 +16,9 @@ static yilgashe_hall told(uint64_t key, const char *does, yilgashe_keyed answer)
     return answer.hall;
 }
 
-static yilgashe_hall book(yilgashe_hall hall, uint64_t key, uint64_t guest, uint8_t game)
+static yilgashe_hall book(yilgashe_hall hall, uint64_t key, uint64_t guest, double rating, uint8_t game)
 {
-    const yilgashe_booking booking = {guest, guest * MINUTE, ratings[guest - 1], 0, 0, game};
+    const yilgashe_booking booking = {guest, guest * MINUTE, yilgashe_rating_bits(rating), 0, 0, game};
     return told(key, "books", yilgashe_hall_book(hall, key, booking));
 }
 
@@ -61,10 +61,11 @@ int main(void)
     uint64_t guest;
 
     for (guest = 1; guest <= GUESTS; guest++) {
-        hall = book(hall, 100 + guest, guest, guest <= 4 ? 0 : 1);
+        hall = book(hall, 100 + guest, guest, ratings[guest - 1], guest <= 4 ? 0 : 1);
     }
-    hall = book(hall, 103, 3, 0); /* the phone lost the answer and sends it again */
-    hall = book(hall, 109, 1, 1); /* waits for game 0 */
+    hall = book(hall, 103, 3, 1010.0, 0); /* the phone lost the answer and sends it again */
+    hall = book(hall, 103, 3, 1020.0, 0); /* with another rating it is another booking, and needs another key */
+    hall = book(hall, 109, 1, 1000.0, 1); /* waits for game 0 */
     hall = told(110, "leaves", yilgashe_hall_withdraw(hall, 110, 5));
     hall = dispatch(hall, 10);
     hall = dispatch(hall, 11);

@@ -28,7 +28,7 @@
  * FLOATS. The proofs are about IEEE 754 binary64. The caller leaves the floating-point environment as it is by default: rounding to
  * nearest, flush-to-zero and denormals-are-zero off. With denormals taken for zero, yilgashe_latency_satisfied of 5e-324 turns.
  *
- * STACK. A hall is 27,288 bytes, and calls pass it by value. Leave a call 512 KB of stack.
+ * STACK. A hall is 51,864 bytes, and calls pass it by value. Leave a call 512 KB of stack.
  */
 #ifndef YILGASHE_H
 #define YILGASHE_H
@@ -36,6 +36,7 @@
 #include <stdbool.h>
 #include <stddef.h>
 #include <stdint.h>
+#include <string.h>
 
 #ifdef __cplusplus
 extern "C" {
@@ -66,7 +67,7 @@ enum yilgashe_refusal {
     YILGASHE_UNRANKED = 5,
     /* too wide: exhaustive listing with more than 20 entries, or full round of a game that more than 20 wait for */
     YILGASHE_TOO_WIDE = 6,
-    /* key clash: the key is noted for another kind of call or another guest */
+    /* key clash: the key is noted for another kind of call, another guest, or a booking that differs in any field */
     YILGASHE_KEY_CLASH = 7,
     /* book full: an unknown key, and 1,024 keys are noted */
     YILGASHE_BOOK_FULL = 8,
@@ -504,7 +505,12 @@ yilgashe_chosen yilgashe_best_choice(yilgashe_queue queue, yilgashe_team_composi
 
 /* ---- The hall ---------------------------------------------------------------------------------------------------------------- */
 
-enum yilgashe_kind { YILGASHE_BOOKING = 0, YILGASHE_WITHDRAWAL = 1 };
+/* The kind of a note. */
+enum yilgashe_kind {
+    YILGASHE_BOOKING = 0,
+    YILGASHE_WITHDRAWAL = 1,
+    YILGASHE_OLDER_BOOKING = 2 /* a booking that was noted before notes held more than its guest; no call makes such a note */
+};
 
 /* What stands in the place of a game's number where no game was served. */
 enum yilgashe_served { YILGASHE_NONE_SERVED = 255 };
@@ -519,20 +525,49 @@ typedef struct yilgashe_games {
     yilgashe_team_composition sizes[8];
 } yilgashe_games;
 
-/* What a booking brings beside its key, and what waits. Party 0 and role 0 mean none. The game is 0 to 7; one that is not used is taken too. */
+/*
+ * What a booking brings beside its key, and what waits. Party 0 and role 0 mean none. The game is 0 to 7; one that is not used is taken too.
+ * The rating comes as its bits, since a key stands for these; searches and rounds go by the double that they are of. Fill it with
+ * yilgashe_rating_bits and read it with yilgashe_rating: a double that is assigned to it would be cut to a whole number.
+ */
 typedef struct yilgashe_booking {
     uint64_t player;
     uint64_t joined;
-    double rating;
+    uint64_t rating_bits;
     uint64_t party;
     uint32_t role;
     uint8_t game;
 } yilgashe_booking;
 
-/* What is noted beside a key: whom the call was for, its kind (0 a booking, 1 a withdrawal), and the refusal that it got. A note with another
- * kind, or with an answer that its kind cannot get, comes from no call: whoever calls with its key gets YILGASHE_KEY_CLASH. */
+/* The 64 bits of a rating, as a booking and a note hold them. */
+static inline uint64_t yilgashe_rating_bits(double rating)
+{
+    uint64_t rating_bits;
+    memcpy(&rating_bits, &rating, sizeof rating_bits);
+    return rating_bits;
+}
+
+/* The rating that the bits are of. */
+static inline double yilgashe_rating(uint64_t rating_bits)
+{
+    double rating;
+    memcpy(&rating, &rating_bits, sizeof rating);
+    return rating;
+}
+
+/*
+ * What is noted beside a key: the booking that came with it, the kind of the call, and the refusal that it got. The note of a withdrawal holds
+ * its guest alone, and so does that of an older booking; their other fields are written 0 and read by no call. A booking that was refused
+ * is noted as it came, with a game over 7 too. A note with another kind, or with an answer that its kind cannot get, comes from no call:
+ * whoever calls with its key gets YILGASHE_KEY_CLASH.
+ */
 typedef struct yilgashe_note {
     uint64_t player;
+    uint64_t joined;
+    uint64_t rating_bits;
+    uint64_t party;
+    uint32_t role;
+    uint8_t game;
     uint8_t kind;
     uint8_t answer;
 } yilgashe_note;
@@ -599,6 +634,10 @@ yilgashe_hall yilgashe_hall_empty(yilgashe_games games);
  * A booking or a withdrawal under a key of the caller's choice. A call that is sent again with its key gets the answer that it got
  * and changes nothing. Refusals 4, 9, 10, 11 and 13 are noted with the key, so a corrected call needs a new key; 1, 7 and 8 change
  * nothing. A guest waits for one game at a time: 9 looks at all of them. A withdrawal names no game.
+ *
+ * A key stands for the whole booking. One is sent again where player, game, joined, rating_bits, party and role all agree with the note, and
+ * is YILGASHE_KEY_CLASH where one of them differs, whatever it brings. Equal numbers are not enough: 0.0 and -0.0 differ in their bits, and
+ * so may two NaNs. Under a key whose note is older, every booking of its guest is the noted one sent again.
  */
 yilgashe_keyed yilgashe_hall_book(yilgashe_hall hall, uint64_t key, yilgashe_booking booking);
 yilgashe_keyed yilgashe_hall_withdraw(yilgashe_hall hall, uint64_t key, uint64_t player);

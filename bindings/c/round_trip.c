@@ -30,6 +30,7 @@ static yilgashe_role_requirements no_requirements;
 static yilgashe_constraints no_rules;
 static yilgashe_round_rules no_round_rules;
 static yilgashe_games no_games;
+static yilgashe_note blank_note;
 
 /* Numbers whose bytes all differ, one for each n. */
 static uint64_t wide(uint64_t n)
@@ -527,7 +528,7 @@ static yilgashe_booking booking_of(yilgashe_queue_entry e, uint8_t game)
     yilgashe_booking b;
     b.player = e.player;
     b.joined = e.joined;
-    b.rating = e.rating;
+    b.rating_bits = yilgashe_rating_bits(e.rating);
     b.party = e.party;
     b.role = e.role;
     b.game = game;
@@ -540,12 +541,53 @@ static yilgashe_booking booking(uint64_t n)
     return booking_of(entry(n), (uint8_t)(n % 8));
 }
 
+static bool same_booking(yilgashe_booking x, yilgashe_booking y)
+{
+    return x.player == y.player && x.joined == y.joined && x.rating_bits == y.rating_bits && x.party == y.party && x.role == y.role &&
+           x.game == y.game;
+}
+
 /* Is this the n-th entry's booking for the game? */
 static bool booked(yilgashe_booking b, uint64_t n, uint8_t game)
 {
-    const yilgashe_queue_entry e = entry(n);
-    return b.player == e.player && b.joined == e.joined && b.rating == e.rating && b.party == e.party && b.role == e.role &&
-           b.game == game;
+    return same_booking(b, booking_of(entry(n), game));
+}
+
+/* The note of a booking that got this answer. */
+static yilgashe_note note_of(yilgashe_booking b, uint8_t answer)
+{
+    yilgashe_note note;
+    note.player = b.player;
+    note.joined = b.joined;
+    note.rating_bits = b.rating_bits;
+    note.party = b.party;
+    note.role = b.role;
+    note.game = b.game;
+    note.kind = YILGASHE_BOOKING;
+    note.answer = answer;
+    return note;
+}
+
+/* A note that holds its guest alone. */
+static yilgashe_note note_of_guest(uint64_t player, uint8_t kind, uint8_t answer)
+{
+    yilgashe_note note = blank_note;
+    note.player = player;
+    note.kind = kind;
+    note.answer = answer;
+    return note;
+}
+
+static yilgashe_booking booking_in(yilgashe_note note)
+{
+    yilgashe_booking b;
+    b.player = note.player;
+    b.joined = note.joined;
+    b.rating_bits = note.rating_bits;
+    b.party = note.party;
+    b.role = note.role;
+    b.game = note.game;
+    return b;
 }
 
 static bool same_sizes(const yilgashe_team_composition *x, const yilgashe_team_composition *y)
@@ -559,10 +601,41 @@ static bool same_sizes(const yilgashe_team_composition *x, const yilgashe_team_c
 }
 
 /* Is this key noted at place n, with this note beside it? */
-static bool noted(const yilgashe_hall *hall, uint64_t n, uint64_t key, uint64_t player, uint8_t kind, uint8_t answer)
+static bool noted(const yilgashe_hall *hall, uint64_t n, uint64_t key, yilgashe_note note)
 {
-    const yilgashe_note note = hall->notes[n];
-    return hall->keys[n] == key && note.player == player && note.kind == kind && note.answer == answer;
+    const yilgashe_note there = hall->notes[n];
+    return hall->keys[n] == key && same_booking(booking_in(there), booking_in(note)) && there.kind == note.kind &&
+           there.answer == note.answer;
+}
+
+/* Is it the same hall, in every field that means anything? */
+static bool same_hall(const yilgashe_hall *x, const yilgashe_hall *y)
+{
+    bool same = x->waiting == y->waiting && x->noted == y->noted && x->served == y->served && same_sizes(x->sizes, y->sizes);
+    size_t n;
+    for (n = 0; same && n < x->waiting; n++) {
+        same = same_booking(x->bookings[n], y->bookings[n]);
+    }
+    for (n = 0; same && n < x->noted; n++) {
+        same = noted(x, n, y->keys[n], y->notes[n]);
+    }
+    return same;
+}
+
+/* Does the booking get this answer, and leave the hall as it was? */
+static bool idle_booking(const yilgashe_hall *hall, uint64_t key, yilgashe_booking b, uint8_t answer)
+{
+    static yilgashe_keyed told;
+    told = yilgashe_hall_book(*hall, key, b);
+    return told.refusal == answer && same_hall(&told.hall, hall);
+}
+
+/* And so the withdrawal? */
+static bool idle_withdrawal(const yilgashe_hall *hall, uint64_t key, uint64_t player, uint8_t answer)
+{
+    static yilgashe_keyed told;
+    told = yilgashe_hall_withdraw(*hall, key, player);
+    return told.refusal == answer && same_hall(&told.hall, hall);
 }
 
 /* Eight games of nine seats, no two alike: 1 and 8, 2 and 7, .., 8 and 1. */
@@ -603,7 +676,7 @@ static void bookings(void)
     for (n = 0; n < 65; n++) {
         told = yilgashe_hall_book(told.hall, ~wide(n), booking(n));
         CHECK(told.refusal == (n == 64 ? YILGASHE_HALL_FULL : YILGASHE_ACCEPTED));
-        CHECK(told.hall.noted == n + 1 && noted(&told.hall, n, ~wide(n), wide(n), YILGASHE_BOOKING, told.refusal));
+        CHECK(told.hall.noted == n + 1 && noted(&told.hall, n, ~wide(n), note_of(booking(n), told.refusal)));
         CHECK(told.hall.served == 3 && same_sizes(told.hall.sizes, games.sizes));
     }
     told = yilgashe_hall_book(told.hall, ~wide(64), booking(64));
@@ -614,19 +687,36 @@ static void bookings(void)
     told = yilgashe_hall_withdraw(told.hall, 5, wide(0));
     CHECK(told.refusal == YILGASHE_ACCEPTED && told.hall.waiting == 63);
     CHECK(booked(told.hall.bookings[62], 63, 7));
-    CHECK(noted(&told.hall, 65, 5, wide(0), YILGASHE_WITHDRAWAL, YILGASHE_ACCEPTED));
+    CHECK(noted(&told.hall, 65, 5, note_of_guest(wide(0), YILGASHE_WITHDRAWAL, YILGASHE_ACCEPTED)));
     told = yilgashe_hall_withdraw(told.hall, 6, wide(0));
     CHECK(told.refusal == YILGASHE_NOT_WAITING);
-    CHECK(noted(&told.hall, 66, 6, wide(0), YILGASHE_WITHDRAWAL, YILGASHE_NOT_WAITING));
+    CHECK(noted(&told.hall, 66, 6, note_of_guest(wide(0), YILGASHE_WITHDRAWAL, YILGASHE_NOT_WAITING)));
     CHECK(told.hall.served == 3 && same_sizes(told.hall.sizes, games.sizes));
 }
 
-/* A hall of 64 bookings and 1,024 keys, every field of its own: each booking's game too, though no call accepts one over 7. */
+/* What is noted of bookings, and of withdrawals. */
+static const uint8_t booked_answers[5] = {YILGASHE_ACCEPTED, YILGASHE_CLOCK, YILGASHE_ALREADY_WAITING, YILGASHE_HALL_FULL,
+                                          YILGASHE_NO_SUCH_GAME};
+static const uint8_t left_answers[2] = {YILGASHE_ACCEPTED, YILGASHE_NOT_WAITING};
+
+/* The n-th note of a full book, every field of its own, by turns of the three kinds. */
+static yilgashe_note own_note(uint64_t n)
+{
+    yilgashe_note note;
+    note.player = UINT64_C(0x99aabbccddee0000) + n;
+    note.joined = UINT64_C(0x5060708090a00000) + n;
+    note.rating_bits = UINT64_C(0x7ff123456789a000) + n; /* a NaN that would be quieted on the way through arithmetic */
+    note.party = UINT64_C(0xb0c0d0e0f0a10000) + n;
+    note.role = (uint32_t)(0xbbcc0000u + n);
+    note.game = (uint8_t)(37 * n);
+    note.kind = (uint8_t)(n / 5 % 3);
+    note.answer = note.kind == YILGASHE_WITHDRAWAL ? left_answers[n % 2] : booked_answers[n % 5];
+    return note;
+}
+
+/* A hall of 64 bookings and 1,024 keys: each booking's game is of its own too, though no call accepts one over 7. */
 static void fill_all(yilgashe_hall *hall)
 {
-    const uint8_t answers[10] = {YILGASHE_ACCEPTED,     YILGASHE_CLOCK,    YILGASHE_ALREADY_WAITING, YILGASHE_HALL_FULL,
-                                 YILGASHE_NO_SUCH_GAME, YILGASHE_ACCEPTED, YILGASHE_NOT_WAITING,     YILGASHE_ACCEPTED,
-                                 YILGASHE_NOT_WAITING,  YILGASHE_ACCEPTED};
     uint64_t n;
     for (n = 0; n < 64; n++) {
         hall->bookings[n] = booking_of(entry(n), (uint8_t)(0x95 + n));
@@ -634,11 +724,23 @@ static void fill_all(yilgashe_hall *hall)
     hall->waiting = 64;
     for (n = 0; n < 1024; n++) {
         hall->keys[n] = UINT64_C(0x1122334455660000) + n;
-        hall->notes[n].player = UINT64_C(0x99aabbccddee0000) + n;
-        hall->notes[n].kind = (uint8_t)(n / 5 % 2);
-        hall->notes[n].answer = answers[n % 10];
+        hall->notes[n] = own_note(n);
     }
     hall->noted = 1024;
+}
+
+/* What a booking or a withdrawal that its key stands for hears from a note of this kind with this number for an answer. */
+static uint8_t heard(bool leaves, unsigned kind, unsigned answer)
+{
+    const bool known = leaves ? kind == YILGASHE_WITHDRAWAL : kind == YILGASHE_BOOKING || kind == YILGASHE_OLDER_BOOKING;
+    const uint8_t *answers = leaves ? left_answers : booked_answers;
+    size_t n;
+    for (n = 0; known && n < (leaves ? 2 : 5); n++) {
+        if (answers[n] == answer) {
+            return answers[n];
+        }
+    }
+    return YILGASHE_KEY_CLASH;
 }
 
 /* 1,024 keys and notes, every field of them of its own, come back from a call that is refused, and answer by any of them. */
@@ -651,22 +753,158 @@ static void notes(void)
     told = yilgashe_hall_book(hall, 1, booking_of(entry(0), 8));
     CHECK(told.refusal == YILGASHE_BOOK_FULL && told.hall.noted == 1024 && told.hall.waiting == 64);
     for (n = 0; n < 1024; n++) {
-        const yilgashe_note note = hall.notes[n];
-        CHECK(noted(&told.hall, n, hall.keys[n], note.player, note.kind, note.answer));
+        CHECK(noted(&told.hall, n, hall.keys[n], own_note(n)));
         CHECK(n >= 64 || booked(told.hall.bookings[n], n, (uint8_t)(0x95 + n)));
     }
     for (n = 0; n < 1024; n += 31) {
         const uint64_t key = hall.keys[n];
-        const yilgashe_note note = hall.notes[n];
-        yilgashe_booking again = booking(0);
-        again.player = note.player;
-        told = note.kind == YILGASHE_BOOKING ? yilgashe_hall_book(hall, key, again) : yilgashe_hall_withdraw(hall, key, note.player);
-        CHECK(told.refusal == note.answer && told.hall.noted == 1024);
-        told = note.kind == YILGASHE_BOOKING ? yilgashe_hall_withdraw(hall, key, note.player) : yilgashe_hall_book(hall, key, again);
-        CHECK(told.refusal == YILGASHE_KEY_CLASH);
+        const yilgashe_note note = own_note(n);
+        CHECK(idle_booking(&hall, key, booking_in(note), heard(false, note.kind, note.answer)));
+        CHECK(idle_withdrawal(&hall, key, note.player, heard(true, note.kind, note.answer)));
     }
-    hall.notes[5].answer = YILGASHE_NO_SUCH_GAME; /* which no withdrawal can get */
-    CHECK(yilgashe_hall_withdraw(hall, hall.keys[5], hall.notes[5].player).refusal == YILGASHE_KEY_CLASH);
+}
+
+/* A kind or an answer that no call notes answers nobody. */
+static void notes_of_no_call(void)
+{
+    static yilgashe_hall hall;
+    const unsigned kinds[5] = {YILGASHE_BOOKING, YILGASHE_WITHDRAWAL, YILGASHE_OLDER_BOOKING, 3, 255};
+    unsigned n, answer;
+    hall = yilgashe_hall_empty(no_games);
+    hall.keys[0] = 1;
+    hall.noted = 1;
+    for (n = 0; n < 5; n++) {
+        for (answer = 0; answer < 256; answer++) {
+            hall.notes[0] = note_of(booking(0), (uint8_t)answer);
+            hall.notes[0].kind = (uint8_t)kinds[n];
+            CHECK(idle_booking(&hall, 1, booking(0), heard(false, kinds[n], answer)));
+            CHECK(idle_withdrawal(&hall, 1, wide(0), heard(true, kinds[n], answer)));
+        }
+    }
+}
+
+/* Both zeros, both infinities, the least number, NaNs of either sign, quiet and not, with other bits, and 1510.5. */
+enum { RATINGS = 13 };
+static const uint64_t rating_bits[RATINGS] = {
+    UINT64_C(0),
+    UINT64_C(0x8000000000000000),
+    UINT64_C(0x7ff0000000000000),
+    UINT64_C(0xfff0000000000000),
+    UINT64_C(1),
+    UINT64_C(0x7ff8000000000000),
+    UINT64_C(0xfff8000000000000),
+    UINT64_C(0x7ff8000000000001),
+    UINT64_C(0x7ff0000000000001),
+    UINT64_C(0xfff4dcba98765432),
+    UINT64_C(0x7ffedcba98765432),
+    UINT64_C(0xffffffffffffffff),
+    UINT64_C(0x40979a0000000000),
+};
+
+/* The bits of a double are what the booking gets, and they come back from it. */
+static void bits_of_doubles(void)
+{
+    size_t n;
+    for (n = 0; n < RATINGS; n++) {
+        CHECK(yilgashe_rating_bits(yilgashe_rating(rating_bits[n])) == rating_bits[n]);
+        CHECK(isnan(yilgashe_rating(rating_bits[n])) ? n >= 5 && n < 12 : n < 5 || n == 12);
+    }
+    CHECK(yilgashe_rating_bits(0.0) == rating_bits[0] && yilgashe_rating_bits(-0.0) == rating_bits[1]);
+    CHECK(yilgashe_rating_bits(HUGE_VAL) == rating_bits[2] && yilgashe_rating_bits(1510.5) == rating_bits[12]);
+    CHECK(yilgashe_rating(rating_bits[12]) == 1510.5 && yilgashe_rating(rating_bits[3]) == -HUGE_VAL);
+}
+
+/* The n-th of these ratings, by a double. */
+static yilgashe_booking rated(uint64_t guest, size_t n)
+{
+    yilgashe_booking b = booking(guest);
+    b.rating_bits = yilgashe_rating_bits(yilgashe_rating(rating_bits[n]));
+    return b;
+}
+
+/* All bits of a rating stand in the booking that waits and in its note, and the key stands for all of them: under it neither the other
+ * zero nor another NaN is the rating that was sent. */
+static void bits_of_bookings(void)
+{
+    static yilgashe_keyed told;
+    size_t n, m;
+    told.hall = yilgashe_hall_empty(no_games);
+    for (n = 0; n < RATINGS; n++) {
+        told = yilgashe_hall_book(told.hall, n, rated(n, n));
+        CHECK(told.refusal == YILGASHE_ACCEPTED);
+    }
+    for (n = 0; n < RATINGS; n++) {
+        CHECK(told.hall.bookings[n].rating_bits == rating_bits[n] && told.hall.notes[n].rating_bits == rating_bits[n]);
+        for (m = 0; m < RATINGS; m++) {
+            CHECK(idle_booking(&told.hall, n, rated(n, m), m == n ? YILGASHE_ACCEPTED : YILGASHE_KEY_CLASH));
+        }
+    }
+    told = yilgashe_hall_withdraw(told.hall, 99, wide(0));
+    for (n = 1; n < RATINGS; n++) {
+        CHECK(told.hall.bookings[n - 1].rating_bits == rating_bits[n] && told.hall.notes[n].rating_bits == rating_bits[n]);
+    }
+}
+
+/* A booking with one bit changed. What stands behind its game is padding. */
+enum { BITS = 8 * (offsetof(yilgashe_booking, game) + 1), WITH_PADDING = 8 * sizeof(yilgashe_booking) };
+static yilgashe_booking flipped(yilgashe_booking b, unsigned bit)
+{
+    unsigned char bytes[sizeof b];
+    memcpy(bytes, &b, sizeof b);
+    bytes[bit / 8] = (unsigned char)(bytes[bit / 8] ^ 1u << bit % 8);
+    memcpy(&b, bytes, sizeof b);
+    return b;
+}
+
+/* Does the key stand for this booking in each of its bits, and not look at what stands behind them? */
+static bool stands_for(const yilgashe_hall *hall, uint64_t key, yilgashe_booking b, uint8_t answer)
+{
+    bool stands = idle_booking(hall, key, b, answer);
+    unsigned bit;
+    for (bit = 0; bit < BITS; bit++) {
+        stands = stands && idle_booking(hall, key, flipped(b, bit), YILGASHE_KEY_CLASH);
+    }
+    for (bit = BITS; bit < WITH_PADDING; bit++) {
+        stands = stands && idle_booking(hall, key, flipped(b, bit), answer);
+    }
+    return stands;
+}
+
+/* So it is for a booking that was accepted, and for one of each refusal that is noted; corrected, it is another. */
+static void whole_bookings(void)
+{
+    static yilgashe_keyed told;
+    yilgashe_booking sent[5];
+    uint64_t n;
+    sent[0] = booking(63);
+    sent[1] = booking(70);
+    sent[1].joined = YILGASHE_MAX_TIME + 1;
+    sent[2] = booking_of(entry(0), 5);
+    sent[3] = booking(71);
+    sent[4] = booking_of(entry(72), 200);
+    told.hall = yilgashe_hall_empty(nines());
+    for (n = 0; n < 63; n++) {
+        told = yilgashe_hall_book(told.hall, ~wide(n), booking(n));
+    }
+    for (n = 0; n < 5; n++) {
+        told = yilgashe_hall_book(told.hall, wide(n), sent[n]);
+        CHECK(told.refusal == booked_answers[n] && noted(&told.hall, 63 + n, wide(n), note_of(sent[n], booked_answers[n])));
+    }
+    for (n = 0; n < 5; n++) {
+        CHECK(stands_for(&told.hall, wide(n), sent[n], booked_answers[n]));
+    }
+    told = yilgashe_hall_withdraw(told.hall, 1, wide(0)); /* there is a place now, and the guest of the third waits no more */
+    CHECK(told.refusal == YILGASHE_ACCEPTED);
+    for (n = 0; n < 5; n++) {
+        CHECK(stands_for(&told.hall, wide(n), sent[n], booked_answers[n]));
+    }
+    sent[1].joined = YILGASHE_MAX_TIME;
+    CHECK(yilgashe_hall_book(told.hall, wide(1), sent[1]).refusal == YILGASHE_KEY_CLASH);
+    CHECK(yilgashe_hall_book(told.hall, 2, sent[1]).refusal == YILGASHE_ACCEPTED);
+    sent[4].game = 7;
+    CHECK(yilgashe_hall_book(told.hall, wide(4), sent[4]).refusal == YILGASHE_KEY_CLASH);
+    sent[0].game = 8; /* what the key says comes first */
+    CHECK(yilgashe_hall_book(told.hall, wide(0), sent[0]).refusal == YILGASHE_KEY_CLASH);
 }
 
 enum { GREEDY = 0, BEAM = 1, FULL = 2, DISPATCH = 3 };
@@ -712,9 +950,7 @@ static yilgashe_hall five_guests(size_t a, size_t b)
     }
     hall.waiting = 5;
     hall.keys[0] = wide(1);
-    hall.notes[0].player = 9;
-    hall.notes[0].kind = YILGASHE_BOOKING;
-    hall.notes[0].answer = YILGASHE_ACCEPTED;
+    hall.notes[0] = note_of(hall.bookings[0], YILGASHE_ACCEPTED);
     hall.noted = 1;
     hall.served = 4;
     return hall;
@@ -723,8 +959,8 @@ static yilgashe_hall five_guests(size_t a, size_t b)
 /* Do the hall's note and sizes stay as they were, and is this the last game served? */
 static bool stays(const yilgashe_hall *after, const yilgashe_hall *before, uint8_t served)
 {
-    return after->noted == 1 && noted(after, 0, wide(1), 9, YILGASHE_BOOKING, YILGASHE_ACCEPTED) &&
-           same_sizes(after->sizes, before->sizes) && after->served == served;
+    return after->noted == 1 && noted(after, 0, wide(1), before->notes[0]) && same_sizes(after->sizes, before->sizes) &&
+           after->served == served;
 }
 
 /* Did the round hand out one match, and wait only guest 9 and this one now? */
@@ -875,7 +1111,7 @@ static void bookings_for_no_game(void)
     b.game = 8;
     told = yilgashe_hall_book(told.hall, 7, b);
     CHECK(told.refusal == YILGASHE_NO_SUCH_GAME && told.hall.waiting == 5 && told.hall.noted == 2);
-    CHECK(noted(&told.hall, 1, 7, 9, YILGASHE_BOOKING, YILGASHE_NO_SUCH_GAME));
+    CHECK(noted(&told.hall, 1, 7, note_of(b, YILGASHE_NO_SUCH_GAME)));
     told = yilgashe_hall_book(told.hall, 7, b);
     CHECK(told.refusal == YILGASHE_NO_SUCH_GAME && told.hall.waiting == 5 && told.hall.noted == 2);
     b.player = 8;
@@ -1028,35 +1264,219 @@ static void unused_games(void)
     CHECK(qualities[0] == 0.0);
 }
 
-/* A hall of before there were games is the first 27,152 bytes of one. Where a booking has its game now was no field: any byte may stand
- * there. */
-static void kept_halls(void)
+/* Which NaN a rating is, or which zero, is nothing to a round: it seats whom it would. */
+static void rounds_by_any_bits(void)
 {
-    static unsigned char kept[27152];
     static yilgashe_hall hall;
-    static yilgashe_rounded told;
-    yilgashe_booking again = booking_of(blank, 0);
-    yilgashe_games games = no_games;
+    static yilgashe_rounded told, due;
+    uint64_t due_players[SHEET + 1];
+    double due_qualities[SHEET + 1];
+    unsigned kind;
+    size_t n;
+    for (kind = GREEDY; kind <= DISPATCH; kind++) {
+        for (n = 0; n < RATINGS; n++) {
+            const uint64_t bits = rating_bits[n];
+            const double rating = yilgashe_rating(bits);
+            const uint64_t plain = isnan(rating) ? rating_bits[5] : yilgashe_rating_bits(rating + 0.0);
+            hall = five_guests(2, 1);
+            hall.bookings[0].rating_bits = hall.bookings[3].rating_bits = plain;
+            fresh_sheets();
+            due = round_of(kind, hall, 5, 0);
+            memcpy(due_players, players, sizeof players);
+            memcpy(due_qualities, qualities, sizeof qualities);
+            hall.bookings[0].rating_bits = hall.bookings[3].rating_bits = bits;
+            fresh_sheets();
+            told = round_of(kind, hall, 5, 0);
+            CHECK(told.refusal == due.refusal && told.count == due.count && told.hall.waiting == due.hall.waiting);
+            CHECK(memcmp(players, due_players, sizeof players) == 0 && memcmp(qualities, due_qualities, sizeof qualities) == 0);
+            CHECK(told.hall.bookings[0].player == 9 && told.hall.bookings[0].rating_bits == bits);
+        }
+    }
+}
+
+/* A hall as it was kept before a key stood for the whole booking: ratings were doubles, and a note held kind, guest and answer. */
+typedef struct kept_booking {
+    uint64_t player;
+    uint64_t joined;
+    double rating;
+    uint64_t party;
+    uint32_t role;
+    uint8_t game;
+} kept_booking;
+
+typedef struct kept_note {
+    uint64_t player;
+    uint8_t kind;
+    uint8_t answer;
+} kept_note;
+
+typedef struct kept_hall {
+    kept_booking bookings[64];
+    size_t waiting;
+    uint64_t keys[1024];
+    kept_note notes[1024];
+    size_t noted;
+    yilgashe_team_composition sizes[8];
+    uint8_t served;
+} kept_hall;
+
+/* Brings it over, field by field. A note's other fields are 0. */
+static void bring_over(yilgashe_hall *hall, const kept_hall *kept)
+{
+    size_t n;
+    for (n = 0; n < 64; n++) {
+        const kept_booking b = kept->bookings[n];
+        hall->bookings[n].player = b.player;
+        hall->bookings[n].joined = b.joined;
+        hall->bookings[n].rating_bits = yilgashe_rating_bits(b.rating);
+        hall->bookings[n].party = b.party;
+        hall->bookings[n].role = b.role;
+        hall->bookings[n].game = b.game;
+    }
+    for (n = 0; n < 1024; n++) {
+        const kept_note note = kept->notes[n];
+        hall->keys[n] = kept->keys[n];
+        hall->notes[n] = note_of_guest(note.player, note.kind, note.answer);
+        if (note.kind == YILGASHE_BOOKING) {
+            hall->notes[n].kind = YILGASHE_OLDER_BOOKING;
+        }
+    }
+    hall->waiting = kept->waiting;
+    hall->noted = kept->noted;
+    memcpy(hall->sizes, kept->sizes, sizeof hall->sizes);
+    hall->served = kept->served;
+}
+
+/* Notes a call as it was done then. */
+static void keep_note(kept_hall *kept, uint64_t key, uint64_t player, uint8_t kind, uint8_t answer)
+{
+    kept->keys[kept->noted] = key;
+    kept->notes[kept->noted].player = player;
+    kept->notes[kept->noted].kind = kind;
+    kept->notes[kept->noted].answer = answer;
+    kept->noted++;
+}
+
+/* The evening of the five guests, as far as it got: the keys 0 to 4 brought them, and 5 to 10 were turned away or left. */
+static void keep_evening(kept_hall *kept)
+{
+    static yilgashe_hall hall;
     size_t n;
     hall = five_guests(2, 1);
-    memcpy(kept, &hall, sizeof kept);
-    for (n = 0; n < 64; n++) {
-        kept[n * sizeof(yilgashe_booking) + offsetof(yilgashe_booking, game)] = 0xab;
+    memset(kept, 0, sizeof *kept);
+    for (n = 0; n < 5; n++) {
+        const yilgashe_booking b = hall.bookings[n];
+        kept->bookings[n].player = b.player;
+        kept->bookings[n].joined = n;
+        kept->bookings[n].rating = n == 0 ? yilgashe_rating(rating_bits[9]) : ratings4[n - 1];
+        kept->bookings[n].party = ~wide(n);
+        kept->bookings[n].role = (uint32_t)(7 + n);
+        kept->bookings[n].game = b.game;
+        keep_note(kept, n, b.player, YILGASHE_BOOKING, YILGASHE_ACCEPTED);
     }
-    games.sizes[0] = teams_of(2, 1);
-    hall = yilgashe_hall_empty(games);
-    memcpy(&hall, kept, sizeof kept);
-    for (n = 0; n < 64; n++) {
-        hall.bookings[n].game = 0;
+    kept->waiting = 5;
+    keep_note(kept, 5, 20, YILGASHE_BOOKING, YILGASHE_CLOCK);
+    keep_note(kept, 6, 9, YILGASHE_BOOKING, YILGASHE_ALREADY_WAITING);
+    keep_note(kept, 7, 21, YILGASHE_BOOKING, YILGASHE_HALL_FULL);
+    keep_note(kept, 8, 22, YILGASHE_BOOKING, YILGASHE_NO_SUCH_GAME);
+    keep_note(kept, 9, 23, YILGASHE_WITHDRAWAL, YILGASHE_ACCEPTED);
+    keep_note(kept, 10, 24, YILGASHE_WITHDRAWAL, YILGASHE_NOT_WAITING);
+    memcpy(kept->sizes, hall.sizes, sizeof kept->sizes);
+    kept->served = 4;
+}
+
+/* Does each key of that evening still answer its guest as it did, whatever his booking brings, and nobody else? */
+static bool answers_as_kept(const yilgashe_hall *hall, const kept_hall *kept)
+{
+    bool as_kept = true;
+    size_t n, m;
+    for (n = 0; n < kept->noted; n++) {
+        const uint64_t key = kept->keys[n];
+        const kept_note note = kept->notes[n];
+        for (m = 0; m < RATINGS; m++) {
+            yilgashe_booking b = rated(m, m); /* with any fields, late times and games that are none among them */
+            b.joined = m % 2 == 0 ? m : YILGASHE_MAX_TIME + m;
+            b.game = (uint8_t)(m % 3 == 0 ? m : 200 + m);
+            as_kept = as_kept && idle_booking(hall, key, b, YILGASHE_KEY_CLASH);
+            b.player = note.player;
+            as_kept = as_kept && idle_booking(hall, key, b, heard(false, note.kind, note.answer));
+        }
+        as_kept = as_kept && idle_withdrawal(hall, key, note.player, heard(true, note.kind, note.answer));
+        as_kept = as_kept && idle_withdrawal(hall, key, ~note.player, YILGASHE_KEY_CLASH);
     }
+    return as_kept;
+}
+
+/* An evening under way keeps running: old notes answer as before and stay what they are, new ones are whole. */
+static void evening_under_way(void)
+{
+    static kept_hall kept;
+    static yilgashe_hall hall;
+    static yilgashe_rounded round;
+    static yilgashe_keyed told;
+    size_t n;
+    keep_evening(&kept);
+    bring_over(&hall, &kept);
+    CHECK(sizeof kept == 27288 && hall.waiting == 5 && hall.noted == 11 && hall.bookings[0].rating_bits == rating_bits[9]);
+    CHECK(answers_as_kept(&hall, &kept));
+    round = round_of(DISPATCH, hall, 0, 0);
+    CHECK(one_left(&round, 0, 2) && round.served == 5 && answers_as_kept(&round.hall, &kept));
+    told = yilgashe_hall_book(round.hall, 11, booking(70));
+    CHECK(told.refusal == YILGASHE_ACCEPTED && noted(&told.hall, 11, 11, note_of(booking(70), YILGASHE_ACCEPTED)));
+    told = yilgashe_hall_withdraw(told.hall, 12, 9);
+    CHECK(told.refusal == YILGASHE_ACCEPTED && noted(&told.hall, 12, 12, note_of_guest(9, YILGASHE_WITHDRAWAL, YILGASHE_ACCEPTED)));
+    CHECK(stands_for(&told.hall, 11, booking(70), YILGASHE_ACCEPTED) && answers_as_kept(&told.hall, &kept));
+    for (n = 0; n < 11; n++) {
+        const yilgashe_note note = hall.notes[n];
+        CHECK(note.kind == (n < 9 ? YILGASHE_OLDER_BOOKING : YILGASHE_WITHDRAWAL) && noted(&told.hall, n, n, note));
+    }
+}
+
+/* What an older note holds beside its guest counts as little as what a withdrawal's does. */
+static void older_notes_of_any_fields(void)
+{
+    static yilgashe_hall hall;
+    static kept_hall kept;
+    size_t n;
+    keep_evening(&kept);
+    bring_over(&hall, &kept);
+    for (n = 0; n < hall.noted; n++) {
+        const yilgashe_note note = hall.notes[n];
+        hall.notes[n] = own_note(n);
+        hall.notes[n].player = note.player;
+        hall.notes[n].kind = note.kind;
+        hall.notes[n].answer = note.answer;
+    }
+    CHECK(answers_as_kept(&hall, &kept));
+}
+
+/* One from before there were games is the first 27,152 bytes of such a hall. Where a booking got its game was no field: any byte may
+ * stand there. */
+static void hall_of_before_games(void)
+{
+    static unsigned char bytes[27152];
+    static kept_hall kept;
+    static yilgashe_hall hall;
+    static yilgashe_rounded told;
+    size_t n;
+    keep_evening(&kept);
+    memcpy(bytes, &kept, sizeof bytes);
+    for (n = 0; n < 64; n++) {
+        bytes[n * sizeof(kept_booking) + offsetof(kept_booking, game)] = 0xab;
+    }
+    memset(&kept, 0, sizeof kept);
+    memcpy(&kept, bytes, sizeof bytes);
+    for (n = 0; n < 64; n++) {
+        kept.bookings[n].game = 0;
+    }
+    kept.bookings[0].rating = ratings4[0];
+    kept.sizes[0] = teams_of(2, 1);
+    kept.served = YILGASHE_NONE_SERVED;
+    bring_over(&hall, &kept);
     told = round_of(GREEDY, hall, 0, 0);
     CHECK(told.refusal == YILGASHE_ACCEPTED && told.count == 1 && seated(9, 3, 1, ~(uint64_t)0));
     CHECK(told.hall.waiting == 2 && told.hall.bookings[0].player == 2 && told.hall.bookings[1].player == 4);
-    CHECK(stays(&told.hall, &hall, YILGASHE_NONE_SERVED));
-    again.player = 9; /* as his phone sent it, with the game that it did not name */
-    CHECK(yilgashe_hall_book(told.hall, wide(1), again).refusal == YILGASHE_ACCEPTED);
-    again.player = 8;
-    CHECK(yilgashe_hall_book(told.hall, wide(1), again).refusal == YILGASHE_KEY_CLASH);
+    CHECK(told.hall.served == YILGASHE_NONE_SERVED && same_sizes(told.hall.sizes, hall.sizes) && answers_as_kept(&told.hall, &kept));
 }
 
 /* The n-th of these guests waits for game 0 with the n-th of these parties. */
@@ -1065,7 +1485,7 @@ static yilgashe_hall coming(const uint64_t *guests, const uint64_t *parties, siz
     yilgashe_hall hall = yilgashe_hall_empty(no_games);
     size_t n;
     for (n = 0; n < len; n++) {
-        yilgashe_booking b = {guests[n], 0, 0.0, parties[n], 0, 0};
+        yilgashe_booking b = {guests[n], 0, 0, parties[n], 0, 0};
         hall.bookings[n] = b;
     }
     hall.waiting = len;
@@ -1179,6 +1599,10 @@ static void halls(void)
     empty_halls();
     bookings();
     notes();
+    notes_of_no_call();
+    bits_of_doubles();
+    bits_of_bookings();
+    whole_bookings();
     rounds();
     late_rounds();
     rounds_of_games();
@@ -1191,7 +1615,10 @@ static void halls(void)
     none_served();
     served_without_a_match();
     unused_games();
-    kept_halls();
+    rounds_by_any_bits();
+    evening_under_way();
+    older_notes_of_any_fields();
+    hall_of_before_games();
     waiting_friends();
     friends_of_another_game();
     friends_at_home();

@@ -12,11 +12,11 @@ fn say(key: u64, does: &str, answer: Result<(), Refusal>) {
     println!("key {key} {does}: {told}");
 }
 
-fn book(hall: &mut Hall, key: u64, player: u64, game: u8) {
+fn book(hall: &mut Hall, key: u64, player: u64, rating: f64, game: u8) {
     let booking = Booking {
         player,
         joined: player * MINUTE,
-        rating: RATINGS[player as usize - 1],
+        rating,
         game,
         ..Booking::default()
     };
@@ -50,11 +50,12 @@ fn main() -> Result<(), Refusal> {
     let twos = TeamComposition { a: 2, b: 2 };
     let ones = TeamComposition { a: 1, b: 1 };
     let mut hall = Hall::new(Games::of([twos, ones])); // game 0 and game 1
-    for guest in 1..=8 {
-        book(&mut hall, 100 + guest, guest, u8::from(guest > 4));
+    for (guest, rating) in (1..).zip(RATINGS) {
+        book(&mut hall, 100 + guest, guest, rating, u8::from(guest > 4));
     }
-    book(&mut hall, 103, 3, 0); // the phone lost the answer and sends it again
-    book(&mut hall, 109, 1, 1); // waits for game 0
+    book(&mut hall, 103, 3, 1010.0, 0); // the phone lost the answer and sends it again
+    book(&mut hall, 103, 3, 1020.0, 0); // with another rating it is another booking, and needs another key
+    book(&mut hall, 109, 1, 1000.0, 1); // waits for game 0
     say(110, "leaves", hall.withdraw(110, 5));
     for minute in 10..=12 {
         dispatch(&mut hall, minute, &roster)?;

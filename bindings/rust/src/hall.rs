@@ -3,26 +3,28 @@
 use crate::matches::Matches;
 use crate::proposed::raw_objectives;
 use crate::refusal::answered;
-use crate::{Refusal, Roster, RoundRules, SoftObjective};
+use crate::{Booking, KeyRecord, Refusal, Roster, RoundRules, SoftObjective};
 use yilgashe_sys as sys;
-use yilgashe_sys::{BeamSearch, Booking, Games, MatchObjective, TeamComposition};
+use yilgashe_sys::{BeamSearch, Games, MatchObjective, TeamComposition};
 
 /// Who waits, for which of up to eight games, and the keys of the calls that were answered: 64 guests and 1,024 keys at most, for all games
 /// together, and no key is ever dropped.
 ///
-/// A call that is sent again with its key gets the answer that it got and changes nothing. Refusals [`Clock`](Refusal::Clock),
-/// [`AlreadyWaiting`](Refusal::AlreadyWaiting), [`HallFull`](Refusal::HallFull), [`NotWaiting`](Refusal::NotWaiting) and
-/// [`NoSuchGame`](Refusal::NoSuchGame) are noted with the key, so a corrected call needs a new key.
+/// A call that is sent again with its key gets the answer that it got and changes nothing. A key stands for the whole call: a booking that
+/// is not [equal](Booking) to the one noted, in a bit of its rating too, is [`KeyClash`](Refusal::KeyClash). Refusals
+/// [`Clock`](Refusal::Clock), [`AlreadyWaiting`](Refusal::AlreadyWaiting), [`HallFull`](Refusal::HallFull),
+/// [`NotWaiting`](Refusal::NotWaiting) and [`NoSuchGame`](Refusal::NoSuchGame) are noted with the key, so a corrected call needs a new key.
 ///
 /// ```
 /// use yilgashe::{Booking, Games, Hall, Refusal, TeamComposition};
 ///
 /// let mut hall = Hall::new(Games::of([TeamComposition { a: 5, b: 5 }]));
-/// let guest = |player| Booking { player, rating: 1000.0, ..Booking::default() };
-/// assert_eq!(hall.book(7, guest(1)), Ok(()));
-/// assert_eq!(hall.book(7, guest(1)), Ok(())); // sent again
-/// assert_eq!(hall.waiting().len(), 1);
-/// assert_eq!(hall.book(7, guest(2)), Err(Refusal::KeyClash));
+/// let guest = |player, rating| Booking { player, rating, ..Booking::default() };
+/// assert_eq!(hall.book(7, guest(1, 1000.0)), Ok(()));
+/// assert_eq!(hall.book(7, guest(1, 1000.0)), Ok(())); // sent again
+/// assert_eq!(hall.waiting(), [guest(1, 1000.0)]);
+/// assert_eq!(hall.book(7, guest(2, 1000.0)), Err(Refusal::KeyClash));
+/// assert_eq!(hall.book(7, guest(1, 1020.0)), Err(Refusal::KeyClash));
 /// assert_eq!(hall.withdraw(8, 1), Ok(()));
 /// assert_eq!(hall.withdraw(9, 1), Err(Refusal::NotWaiting));
 /// ```
@@ -31,19 +33,6 @@ use yilgashe_sys::{BeamSearch, Booking, Games, MatchObjective, TeamComposition};
 /// number over 7 is the library's to refuse, with [`NoSuchGame`](Refusal::NoSuchGame) before anything else.
 #[derive(Clone, Debug)]
 pub struct Hall(Box<sys::Hall>);
-
-/// One keyed call that was answered.
-#[derive(Clone, Copy, Debug, Default, PartialEq)]
-pub struct KeyRecord {
-    /// The caller's key.
-    pub key: u64,
-    /// Whom the call was for.
-    pub player: u64,
-    /// 0 a booking, 1 a withdrawal.
-    pub kind: u8,
-    /// 0 accepted, else the refusal's number.
-    pub answer: u8,
-}
 
 /// What a full round hands out: one match or none, and how many choices it tried.
 #[derive(Clone, Debug, PartialEq)]
@@ -86,24 +75,19 @@ impl Hall {
     }
 
     /// The bookings of those who wait, for whatever game, in the order booked.
-    pub fn waiting(&self) -> &[Booking] {
-        self.0.booked()
+    pub fn waiting(&self) -> Vec<Booking> {
+        let booked = self.0.booked().iter();
+        booked.map(|&raw| raw.into()).collect()
     }
 
     /// The answered calls, in the order of coming.
     pub fn noted(&self) -> Vec<KeyRecord> {
-        let record = |(key, note): (u64, sys::Note)| KeyRecord {
-            key,
-            player: note.player,
-            kind: note.kind,
-            answer: note.answer,
-        };
-        self.0.answered().map(record).collect()
+        self.0.answered().map(KeyRecord::of).collect()
     }
 
     /// A booking under a key. A guest waits for one game at a time.
     pub fn book(&mut self, key: u64, booking: Booking) -> Result<(), Refusal> {
-        self.keep(sys::hall_book(*self.0, key, booking))
+        self.keep(sys::hall_book(*self.0, key, booking.into()))
     }
 
     /// A withdrawal under a key.

@@ -26,8 +26,10 @@
 #![forbid(unsafe_code)]
 #![deny(missing_docs)]
 
+mod booking;
 mod hall;
 mod matches;
+mod notes;
 mod proposed;
 mod queue;
 mod refusal;
@@ -38,8 +40,10 @@ pub mod select;
 pub mod time;
 pub mod vector;
 
-pub use hall::{Dispatch, FullRound, Hall, KeyRecord};
+pub use booking::Booking;
+pub use hall::{Dispatch, FullRound, Hall};
 pub use matches::{Iter, Match, Matches};
+pub use notes::{KeyRecord, Noted};
 pub use proposed::{ProposedMatch, SoftObjective, soft_score};
 pub use queue::Queue;
 pub use refusal::Refusal;
@@ -48,6 +52,5 @@ pub use rules::{Constraints, Fault, RoleRequirement, RoundRules, TeamRule};
 pub use searches::Choice;
 pub use yilgashe_sys as sys;
 pub use yilgashe_sys::{
-    Booking, Games, MatchObjective, MatchObjectiveVector, ObjectiveWeights, QueueEntry,
-    TeamComposition,
+    Games, MatchObjective, MatchObjectiveVector, ObjectiveWeights, QueueEntry, TeamComposition,
 };

@@ -30,7 +30,7 @@ pub enum Refusal {
     Unranked = 5,
     /// An exhaustive listing of more than 20 entries, or a full round of a game that more than 20 wait for.
     TooWide = 6,
-    /// The key is noted for another kind of call or another guest.
+    /// The key is noted for another kind of call, another guest, or a booking that differs in any field.
     KeyClash = 7,
     /// An unknown key, and 1,024 keys are noted.
     BookFull = 8,

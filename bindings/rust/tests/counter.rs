@@ -1,9 +1,9 @@
 //! The safe crate at the counter: what it adds is types, so each refusal that its types still allow is met once.
 
 use yilgashe::{
-    Booking, Constraints, Fault, Games, Hall, KeyRecord, Match, MatchObjective, ProposedMatch,
-    Queue, QueueEntry, Refusal, Region, RoleRequirement, Roster, RoundRules, Row, SoftObjective,
-    TeamComposition, TeamRule, select, sys, time,
+    Booking, Constraints, Fault, Games, Hall, KeyRecord, Match, MatchObjective, Noted,
+    ProposedMatch, Queue, QueueEntry, Refusal, Region, RoleRequirement, Roster, RoundRules, Row,
+    SoftObjective, TeamComposition, TeamRule, select, sys, time,
 };
 
 const PAIRS: TeamComposition = TeamComposition { a: 1, b: 1 };
@@ -87,13 +87,13 @@ fn who_waits_and_what_is_noted() {
     };
     assert_eq!(hall.book(8, guest), Ok(()));
     assert_eq!(hall.withdraw(9, 2), Err(Refusal::NotWaiting));
-    let record = |key, player, kind, answer| KeyRecord {
-        key,
-        player,
-        kind,
-        answer,
-    };
-    assert_eq!(hall.noted(), [record(8, 1, 0, 0), record(9, 2, 1, 11)]);
+    let record = |key, noted, answer| KeyRecord { key, noted, answer };
+    let records = [
+        record(8, Noted::Booking(guest), 0),
+        record(9, Noted::Withdrawal(2), 11),
+    ];
+    assert_eq!(hall.noted(), records);
+    assert_eq!(records.map(|record| record.noted.player()), [1, 2]);
     assert_eq!(hall.waiting(), [guest]);
 }
 
@@ -383,11 +383,11 @@ const ONE: TeamComposition = TeamComposition { a: 1, b: 0 };
 
 /// Those who wait for a game of these sizes, each with the party that he booked with. A hall that was kept elsewhere may have somebody twice.
 fn parties(sizes: TeamComposition, waiting: &[(u64, u64)]) -> Hall {
-    let booked = |&(player, party)| Booking {
+    let booked = |&(player, party)| sys::Booking {
         party,
-        ..booking(player)
+        ..booking(player).into()
     };
-    let bookings: Vec<Booking> = waiting.iter().map(booked).collect();
+    let bookings: Vec<sys::Booking> = waiting.iter().map(booked).collect();
     Hall::from(sys::Hall::of(Games::of([sizes]), &bookings, &[]))
 }
 

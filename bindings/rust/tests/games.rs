@@ -29,12 +29,13 @@ fn hall<const N: usize>(games: [TeamComposition; N], guests: &[(u64, u8)]) -> Ha
 
 /// A hall from elsewhere, which may be one that no list of calls makes.
 fn handed_in<const N: usize>(games: [TeamComposition; N], guests: &[(u64, u8)]) -> sys::Hall {
-    let bookings: Vec<Booking> = guests.iter().copied().map(booking).collect();
+    let raw = |&guest| sys::Booking::from(booking(guest));
+    let bookings: Vec<sys::Booking> = guests.iter().map(raw).collect();
     sys::Hall::of(Games::of(games), &bookings, &[])
 }
 
 fn waiting(hall: &Hall) -> Vec<(u64, u8)> {
-    let guests = hall.waiting().iter();
+    let guests = hall.waiting().into_iter();
     guests.map(|guest| (guest.player, guest.game)).collect()
 }
 
@@ -69,7 +70,8 @@ fn a_booking_for_no_game_is_noted() {
     assert_eq!(hall.book(2, nowhere), Err(Refusal::NoSuchGame)); // sent again
     let noted: Vec<u8> = hall.noted().iter().map(|record| record.answer).collect();
     assert_eq!(noted, [0, 13]);
-    assert_eq!(hall.book(1, nowhere), Ok(())); // the key stands for the booking that was accepted
+    assert_eq!(hall.book(1, nowhere), Err(Refusal::KeyClash)); // what the key says comes first
+    assert_eq!(hall.book(2, booking((1, 0))), Err(Refusal::KeyClash)); // corrected
     assert_eq!(hall.book(2, booking((2, 0))), Err(Refusal::KeyClash));
     assert_eq!(waiting(&hall), [(1, 0)]);
 }
@@ -258,14 +260,11 @@ fn served_without_a_match() {
 fn a_hall_of_before_there_were_games() {
     let note = sys::Note {
         player: 1,
-        kind: 0,
-        answer: 0,
+        kind: sys::OLDER_BOOKING,
+        ..sys::Note::default()
     };
-    let kept = sys::Hall::of(
-        Games::of([PAIRS]),
-        &[booking((1, 0)), booking((2, 0))],
-        &[(5, note)],
-    );
+    let mut kept = handed_in([PAIRS], &[(1, 0), (2, 0)]);
+    (kept.keys[0], kept.notes[0], kept.noted) = (5, note, 1);
     let mut hall = Hall::from(kept);
     assert_eq!(hall.book(5, booking((1, 0))), Ok(()));
     let tables = hall.greedy_round(0, 0, &Roster::new()).unwrap();

@@ -8,6 +8,16 @@ use crate::{
 /// What stands in the place of a game's number where no game was served.
 pub const NONE_SERVED: u8 = 255;
 
+/// The kind of a note that holds a whole booking.
+pub const BOOKING: u8 = 0;
+
+/// The kind of a withdrawal's note, of which just the guest counts.
+pub const WITHDRAWAL: u8 = 1;
+
+/// The kind of a booking's note from before notes held more than the guest. No call makes one; one that is handed in stays, and answers every
+/// booking of its guest.
+pub const OLDER_BOOKING: u8 = 2;
+
 /// The sizes of the games 0 to 7, which share a hall's places and its keys. A game that is not used has sizes 0 and 0; by default no
 /// game is used.
 #[repr(C)]
@@ -17,16 +27,16 @@ pub struct Games {
     pub sizes: [TeamComposition; 8],
 }
 
-/// What a booking brings beside its key, and what waits.
+/// What a booking brings beside its key, and what waits. Equal ones are those that a key takes for each other.
 #[repr(C)]
-#[derive(Clone, Copy, Debug, Default, PartialEq)]
+#[derive(Clone, Copy, Default, PartialEq, Eq, Hash)]
 pub struct Booking {
     /// Any number, 0 too.
     pub player: u64,
     /// Since when, in nanoseconds.
     pub joined: u64,
-    /// The rating that searches go by.
-    pub rating: f64,
+    /// The bits of the rating that searches go by, as [`f64::to_bits`] gives them.
+    pub rating_bits: u64,
     /// 0 for none.
     pub party: u64,
     /// 0 for none.
@@ -35,13 +45,20 @@ pub struct Booking {
     pub game: u8,
 }
 
-/// What is noted beside a key.
+/// What is noted beside a key: the booking that came with it. A withdrawal's note and an older one hold the guest alone, and 0 in the
+/// other fields.
 #[repr(C)]
-#[derive(Clone, Copy, Debug, Default, PartialEq)]
+#[derive(Clone, Copy, Default, PartialEq, Eq, Hash)]
 pub struct Note {
     /// Whom the call was for.
     pub player: u64,
-    /// 0 a booking, 1 a withdrawal.
+    pub joined: u64,
+    pub rating_bits: u64,
+    pub party: u64,
+    pub role: u32,
+    /// Any number: a booking that is refused for its game is noted too.
+    pub game: u8,
+    /// [`BOOKING`], [`WITHDRAWAL`] or [`OLDER_BOOKING`].
     pub kind: u8,
     /// 0 accepted, else the refusal's number.
     pub answer: u8,
@@ -162,7 +179,7 @@ impl Booking {
         Booking {
             player: entry.player,
             joined: entry.joined,
-            rating: entry.rating,
+            rating_bits: entry.rating.to_bits(),
             party: entry.party,
             role: entry.role,
             game: 0,
@@ -174,9 +191,37 @@ impl Booking {
         QueueEntry {
             player: self.player,
             joined: self.joined,
-            rating: self.rating,
+            rating: f64::from_bits(self.rating_bits),
             party: self.party,
             role: self.role,
+        }
+    }
+}
+
+impl Note {
+    /// Of a booking that got this answer.
+    pub fn of(booking: &Booking, answer: u8) -> Self {
+        Note {
+            player: booking.player,
+            joined: booking.joined,
+            rating_bits: booking.rating_bits,
+            party: booking.party,
+            role: booking.role,
+            game: booking.game,
+            kind: BOOKING,
+            answer,
+        }
+    }
+
+    /// The booking that it holds; of a note that is not of kind [`BOOKING`], just the guest has a meaning.
+    pub fn booking(&self) -> Booking {
+        Booking {
+            player: self.player,
+            joined: self.joined,
+            rating_bits: self.rating_bits,
+            party: self.party,
+            role: self.role,
+            game: self.game,
         }
     }
 }

@@ -47,10 +47,10 @@ layout! {
     Formed, 16, count at 0, refusal at 8;
     Chosen, 160, teams at 0, tried at 144, found at 152, refusal at 153;
     Games, 128, sizes at 0;
-    Booking, 40, player at 0, joined at 8, rating at 16, party at 24, role at 32, game at 36;
-    Note, 16, player at 0, kind at 8, answer at 9;
-    Hall, 27288, bookings at 0, waiting at 2560, keys at 2568, notes at 10760, noted at 27144, sizes at 27152, served at 27280;
-    Keyed, 27296, hall at 0, refusal at 27288;
+    Booking, 40, player at 0, joined at 8, rating_bits at 16, party at 24, role at 32, game at 36;
+    Note, 40, player at 0, joined at 8, rating_bits at 16, party at 24, role at 32, game at 36, kind at 37, answer at 38;
+    Hall, 51864, bookings at 0, waiting at 2560, keys at 2568, notes at 10760, noted at 51720, sizes at 51728, served at 51856;
+    Keyed, 51872, hall at 0, refusal at 51864;
     RoundRules, 336, constraints at 0, waiting_friends at 328;
-    Rounded, 27312, hall at 0, count at 27288, tried at 27296, served at 27304, refusal at 27305;
+    Rounded, 51888, hall at 0, count at 51864, tried at 51872, served at 51880, refusal at 51881;
 }

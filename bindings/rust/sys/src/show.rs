@@ -1,6 +1,6 @@
 //! How queues, halls, matches and lists of objectives print: an entry, booking, key, team or list a line, the bits of a rating beside it.
 
-use crate::{Hall, ProposedMatch, Queue, QueueEntry, SoftObjectives, Team};
+use crate::{Booking, Hall, Note, ProposedMatch, Queue, QueueEntry, SoftObjectives, Team};
 use std::fmt::{Debug, Formatter, Result};
 
 impl Debug for QueueEntry {
@@ -15,6 +15,19 @@ impl Debug for QueueEntry {
             self.party,
             self.role
         )
+    }
+}
+
+impl Debug for Booking {
+    fn fmt(&self, f: &mut Formatter<'_>) -> Result {
+        write!(f, "{:?} game {}", self.entry(), self.game)
+    }
+}
+
+impl Debug for Note {
+    fn fmt(&self, f: &mut Formatter<'_>) -> Result {
+        let (kind, answer) = (self.kind, self.answer);
+        write!(f, "kind {kind} {:?} answer {answer}", self.booking())
     }
 }
 
@@ -34,8 +47,7 @@ impl Debug for Hall {
         write!(f, "hall of games {sizes:?}, served {}", self.served)?;
         write!(f, "\n      {} waiting", self.waiting)?;
         for (place, booking) in self.booked().iter().enumerate() {
-            let entry = booking.entry();
-            write!(f, "\n      {place:2}: {entry:?} game {}", booking.game)?;
+            write!(f, "\n      {place:2}: {booking:?}")?;
         }
         write!(f, "\n      {} noted", self.noted)?;
         for (key, note) in self.answered() {

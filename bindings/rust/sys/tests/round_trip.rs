@@ -565,13 +565,14 @@ fn seats_of_a_choice() {
     assert_eq!((wide.refusal, wide.found, wide.tried), (6, false, 0));
 }
 
-fn noted(key: u64, player: u64, kind: u8, answer: u8) -> (u64, Note) {
-    let note = Note {
+/// A note that holds its guest alone.
+fn note_of_guest(player: u64, kind: u8, answer: u8) -> Note {
+    Note {
         player,
         kind,
         answer,
-    };
-    (key, note)
+        ..Note::default()
+    }
 }
 
 /// The n-th booking, for each game by turns.
@@ -584,6 +585,30 @@ fn booking(n: u64) -> Booking {
 
 fn answered(hall: &Hall) -> Vec<(u64, Note)> {
     hall.answered().collect()
+}
+
+/// Is it the same hall, in every field that means anything?
+fn same(one: &Hall, other: &Hall) -> bool {
+    (one.waiting, one.noted, one.served) == (other.waiting, other.noted, other.served)
+        && one.booked() == other.booked()
+        && one.answered().eq(other.answered())
+        && one.sizes == other.sizes
+}
+
+/// The answer of a call that leaves the hall as it was.
+fn idle(hall: &Hall, told: Keyed) -> u8 {
+    assert!(same(&told.hall, hall));
+    told.refusal
+}
+
+/// What a booking gets that changes nothing.
+fn books(hall: &Hall, key: u64, booking: Booking) -> u8 {
+    idle(hall, hall_book(*hall, key, booking))
+}
+
+/// And a withdrawal.
+fn leaves(hall: &Hall, key: u64, player: u64) -> u8 {
+    idle(hall, hall_withdraw(*hall, key, player))
 }
 
 /// Eight games of nine seats, no two alike: 1 and 8, 2 and 7, .., 8 and 1.
@@ -618,8 +643,8 @@ fn fields_of_bookings() {
         let told = hall_book(hall, !wide(n), booking(n));
         assert_eq!(told.refusal, if n == 64 { 10 } else { 0 });
         hall = told.hall;
-        let last = noted(!wide(n), wide(n), 0, told.refusal);
-        assert_eq!(hall.answered().last(), Some(last));
+        let note = Note::of(&booking(n), told.refusal);
+        assert_eq!(hall.answered().last(), Some((!wide(n), note)));
         assert_eq!((hall.sizes, hall.served), (nines().sizes, 3));
     }
     let again = hall_book(hall, !wide(64), booking(64));
@@ -632,21 +657,34 @@ fn fields_of_bookings() {
     assert_eq!(left.hall.bookings[62].entry(), entry(63));
     let gone = hall_withdraw(left.hall, 6, wide(0));
     assert_eq!(gone.refusal, 11);
-    let last = [noted(5, wide(0), 1, 0), noted(6, wide(0), 1, 11)];
-    assert_eq!(answered(&gone.hall)[65..], last);
+    let [first, second] = [0, 11].map(|answer| note_of_guest(wide(0), WITHDRAWAL, answer));
+    assert_eq!(answered(&gone.hall)[65..], [(5, first), (6, second)]);
     assert_eq!((gone.hall.sizes, gone.hall.served), (nines().sizes, 3));
 }
 
-/// 1,024 keys and notes, every field of its own.
+/// The answers that bookings can get, and those of withdrawals.
+const BOOKED: [u8; 5] = [0, 4, 9, 10, 13];
+const LEFT: [u8; 2] = [0, 11];
+
+/// 1,024 keys and notes, every field of its own, by turns of the three kinds.
 fn all_notes() -> Vec<(u64, Note)> {
-    let answers = [0, 4, 9, 10, 13, 0, 11, 0, 11, 0];
     let own = |n: u64| {
-        noted(
-            0x1122_3344_5566_0000 + n,
-            0x99aa_bbcc_ddee_0000 + n,
-            (n / 5 % 2) as u8,
-            answers[n as usize % 10],
-        )
+        let kind = (n / 5 % 3) as u8;
+        let note = Note {
+            player: 0x99aa_bbcc_ddee_0000 + n,
+            joined: 0x5060_7080_90a0_0000 + n,
+            rating_bits: 0x7ff1_2345_6789_a000 + n, // a NaN that would be quieted on the way through arithmetic
+            party: 0xb0c0_d0e0_f0a1_0000 + n,
+            role: 0xbbcc_0000 + n as u32,
+            game: (37 * n) as u8,
+            kind,
+            answer: if kind == WITHDRAWAL {
+                LEFT[n as usize % 2]
+            } else {
+                BOOKED[n as usize % 5]
+            },
+        };
+        (0x1122_3344_5566_0000 + n, note)
     };
     (0..1024).map(own).collect()
 }
@@ -669,18 +707,173 @@ fn fields_of_notes() {
     assert_eq!(answered(&told.hall), notes);
     assert_eq!(told.hall.booked(), bookings);
     for &(key, note) in notes.iter().step_by(31) {
-        let again = Booking {
-            player: note.player,
-            ..booking(0)
-        };
-        let booked = hall_book(hall, key, again);
-        let left = hall_withdraw(hall, key, note.player);
-        let due = if note.kind == 0 {
-            (note.answer, 7)
-        } else {
+        let calls = (
+            books(&hall, key, note.booking()),
+            leaves(&hall, key, note.player),
+        );
+        let due = if note.kind == WITHDRAWAL {
             (7, note.answer)
+        } else {
+            (note.answer, 7)
         };
-        assert_eq!((booked.refusal, left.refusal), due);
+        assert_eq!(calls, due);
+    }
+}
+
+/// A kind or an answer that no call notes answers nobody.
+#[test]
+fn notes_of_no_call() {
+    for kind in [BOOKING, WITHDRAWAL, OLDER_BOOKING, 3, 255] {
+        for answer in 0..=255 {
+            let note = Note {
+                kind,
+                ..Note::of(&booking(0), answer)
+            };
+            let hall = Hall::of(Games::default(), &[], &[(1, note)]);
+            let booked = [BOOKING, OLDER_BOOKING].contains(&kind) && BOOKED.contains(&answer);
+            let left = kind == WITHDRAWAL && LEFT.contains(&answer);
+            let due = |known| if known { answer } else { 7 };
+            assert_eq!(books(&hall, 1, booking(0)), due(booked));
+            assert_eq!(leaves(&hall, 1, wide(0)), due(left));
+        }
+    }
+}
+
+/// Both zeros, both infinities, the least number, NaNs of either sign, quiet and not, with other bits, and 1510.5.
+const BITS: [u64; 13] = [
+    0,
+    1 << 63,
+    0x7ff0_0000_0000_0000,
+    0xfff0_0000_0000_0000,
+    1,
+    0x7ff8_0000_0000_0000,
+    0xfff8_0000_0000_0000,
+    0x7ff8_0000_0000_0001,
+    0x7ff0_0000_0000_0001,
+    0xfff4_dcba_9876_5432,
+    0x7ffe_dcba_9876_5432,
+    u64::MAX,
+    0x4097_9a00_0000_0000,
+];
+
+/// The guest's booking with the n-th of these ratings, by a float.
+fn rated(guest: u64, n: usize) -> Booking {
+    Booking::of(&QueueEntry {
+        rating: f64::from_bits(BITS[n]),
+        ..entry(guest)
+    })
+}
+
+/// All bits of a rating stand in the booking that waits and in its note, and the key stands for all of them: under it neither the
+/// other zero nor another NaN is the rating that was sent.
+#[test]
+fn bits_of_ratings() {
+    let mut hall = hall_empty(Games::default());
+    for n in 0..BITS.len() {
+        let told = hall_book(hall, n as u64, rated(n as u64, n));
+        assert_eq!(told.refusal, 0);
+        hall = told.hall;
+    }
+    for (n, bits) in BITS.into_iter().enumerate() {
+        assert_eq!(hall.bookings[n].rating_bits, bits);
+        assert_eq!(hall.bookings[n].entry().rating.to_bits(), bits);
+        assert_eq!(hall.notes[n].rating_bits, bits);
+        for m in 0..BITS.len() {
+            let due = if m == n { 0 } else { 7 };
+            assert_eq!(books(&hall, n as u64, rated(n as u64, m)), due);
+        }
+    }
+    let left = hall_withdraw(hall, 99, wide(0)).hall;
+    assert!((1..BITS.len()).all(|n| left.bookings[n - 1].rating_bits == BITS[n]));
+}
+
+/// The booking with one of the 296 bits of its fields changed.
+fn flipped(mut booking: Booking, bit: u32) -> Booking {
+    match bit {
+        0..64 => booking.player ^= 1 << bit,
+        64..128 => booking.joined ^= 1 << (bit - 64),
+        128..192 => booking.rating_bits ^= 1 << (bit - 128),
+        192..256 => booking.party ^= 1 << (bit - 192),
+        256..288 => booking.role ^= 1 << (bit - 256),
+        _ => booking.game ^= 1 << (bit - 288),
+    }
+    booking
+}
+
+/// The key stands for this booking in each of its bits.
+fn assert_stands_for(hall: &Hall, key: u64, booking: Booking, answer: u8) {
+    assert_eq!(books(hall, key, booking), answer);
+    for bit in 0..296 {
+        assert_eq!(books(hall, key, flipped(booking, bit)), 7, "bit {bit}");
+    }
+}
+
+/// For one that was accepted, and for one of each refusal that is noted: corrected, or not refused any more, it is another.
+#[test]
+fn keys_of_whole_bookings() {
+    let of_game = |n, game| Booking { game, ..booking(n) };
+    let late = Booking {
+        joined: LATE,
+        ..booking(70)
+    };
+    let sent = [
+        (booking(63), 0),
+        (late, 4),
+        (of_game(0, 5), 9),
+        (booking(71), 10),
+        (of_game(72, 200), 13),
+    ];
+    let mut hall = (0..63).fold(hall_empty(nines()), |hall, n| {
+        hall_book(hall, !wide(n), booking(n)).hall
+    });
+    for (key, (booking, answer)) in (1..).zip(sent) {
+        let told = hall_book(hall, key, booking);
+        assert_eq!(told.refusal, answer);
+        hall = told.hall;
+        let note = Note::of(&booking, answer);
+        assert_eq!(hall.answered().last(), Some((key, note)));
+    }
+    // With a place that is free again, and without the guest of the third, all is as it was.
+    let after = hall_withdraw(hall, 9, wide(0)).hall;
+    for (key, (booking, answer)) in (1..).zip(sent) {
+        assert_stands_for(&hall, key, booking, answer);
+        assert_stands_for(&after, key, booking, answer);
+    }
+    let corrected = Booking {
+        joined: LATE - 1,
+        ..late
+    };
+    assert_eq!(books(&after, 2, corrected), 7);
+    assert_eq!(books(&after, 5, of_game(72, 7)), 7);
+    assert_eq!(books(&after, 1, of_game(63, 8)), 7); // what the key says comes first
+    assert_eq!(hall_book(after, 10, corrected).refusal, 0);
+}
+
+/// Under an older note every booking of its guest gets the noted answer. What it holds beside the guest is not looked at.
+#[test]
+fn older_notes() {
+    let own = all_notes()[0].1;
+    for (note, answer) in BOOKED
+        .into_iter()
+        .flat_map(|answer| [(own, answer), (Note::default(), answer)])
+    {
+        let note = Note {
+            player: wide(0),
+            kind: OLDER_BOOKING,
+            answer,
+            ..note
+        };
+        let hall = Hall::of(nines(), &[booking(0)], &[(1, note)]);
+        for bit in 0..296 {
+            let due = if bit < 64 { 7 } else { answer };
+            assert_eq!(books(&hall, 1, flipped(booking(0), bit)), due);
+        }
+        assert_eq!(leaves(&hall, 1, wide(0)), 7);
+        let told = hall_book(hall, 2, booking(1));
+        assert_eq!(
+            answered(&told.hall),
+            [(1, note), (2, Note::of(&booking(1), 0))]
+        );
     }
 }
 
@@ -690,13 +883,14 @@ fn five_guests(sizes: TeamComposition) -> Hall {
     games.sizes[5] = sizes;
     let rated = |n: usize, player, game| Booking {
         player,
-        rating: RATINGS[n],
+        rating_bits: RATINGS[n].to_bits(),
         game,
         ..Booking::default()
     };
     let [one, two, three, four] = from_fn(|n| rated(n, IDS[n], 5));
     let bookings = [rated(0, 9, 6), one, two, three, four];
-    let mut hall = Hall::of(games, &bookings, &[noted(wide(1), 9, 0, 0)]);
+    let note = Note::of(&bookings[0], 0);
+    let mut hall = Hall::of(games, &bookings, &[(wide(1), note)]);
     hall.served = 4;
     hall
 }
@@ -767,8 +961,9 @@ fn numbers(told: &Rounded) -> (u8, usize, u64, u8) {
 
 /// Who still waits after a round, and which game was served last, by which the hall's place in the answer shows.
 fn left(told: &Rounded, sizes: TeamComposition) -> (Vec<u64>, u8) {
-    assert_eq!(answered(&told.hall), [noted(wide(1), 9, 0, 0)]);
-    assert_eq!(told.hall.sizes, five_guests(sizes).sizes);
+    let before = five_guests(sizes);
+    assert_eq!(answered(&told.hall), answered(&before));
+    assert_eq!(told.hall.sizes, before.sizes);
     let waiting = told.hall.booked().iter().map(|b| b.player);
     (waiting.collect(), told.hall.served)
 }
@@ -846,7 +1041,7 @@ fn bookings_for_no_game() {
     };
     let told = hall_book(hall, 7, nowhere);
     assert_eq!((told.refusal, told.hall.waiting), (13, 5));
-    assert_eq!(answered(&told.hall)[1..], [noted(7, 9, 0, 13)]);
+    assert_eq!(answered(&told.hall)[1..], [(7, Note::of(&nowhere, 13))]);
     let again = hall_book(told.hall, 7, nowhere);
     assert_eq!((again.refusal, again.hall.noted), (13, 2));
     let asks = |key, player, joined, game| {
