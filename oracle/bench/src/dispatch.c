@@ -112,7 +112,7 @@ static size_t nearest(const search *search, double reference)
     size_t i, best = search->count;
     double least = 0.0;
     for (i = 0; i < search->count; i++) {
-        const double distance = fabs(search->own[i]->rating - reference);
+        const double distance = fabs(yilgashe_rating(search->own[i]->rating_bits) - reference);
         if (search->used[i] || !isfinite(distance)) {
             continue;
         }
@@ -129,7 +129,7 @@ static size_t nearest(const search *search, double reference)
 static bool fill(search *search, size_t anchor, uint64_t *seats)
 {
     const yilgashe_team_composition sizes = search->sizes;
-    double reference = search->own[anchor]->rating;
+    double reference = yilgashe_rating(search->own[anchor]->rating_bits);
     size_t a = 1, b = 0;
     seats[0] = search->own[anchor]->player;
     use(search, seats[0]);

@@ -26,27 +26,53 @@ static size_t booking_of(const yilgashe_hall *hall, uint64_t player)
     return i;
 }
 
-static bool can_get(uint8_t kind, uint8_t answer)
+static bool is_same(const yilgashe_note *note, const yilgashe_booking *booking)
 {
-    if (kind == YILGASHE_WITHDRAWAL) {
-        return answer == YILGASHE_ACCEPTED || answer == YILGASHE_NOT_WAITING;
-    }
-    return answer == YILGASHE_ACCEPTED || answer == YILGASHE_CLOCK || answer == YILGASHE_ALREADY_WAITING ||
-           answer == YILGASHE_HALL_FULL || answer == YILGASHE_NO_SUCH_GAME;
+    return note->player == booking->player && note->game == booking->game && note->joined == booking->joined &&
+           note->rating_bits == booking->rating_bits && note->party == booking->party && note->role == booking->role;
 }
 
-/* What a note says to a call with its key. */
-static uint8_t heard(yilgashe_note note, uint8_t kind, uint64_t player)
+/* Does the note stand for this booking, whole or, where it is older, by its guest? */
+static bool is_of_booking(const yilgashe_note *note, const yilgashe_booking *booking)
 {
-    return note.kind == kind && note.player == player && can_get(kind, note.answer) ? note.answer : (uint8_t)YILGASHE_KEY_CLASH;
+    return note->kind == YILGASHE_BOOKING ? is_same(note, booking)
+                                          : note->kind == YILGASHE_OLDER_BOOKING && note->player == booking->player;
 }
 
-static void take_note(yilgashe_hall *hall, uint64_t key, uint64_t player, uint8_t kind, uint8_t answer)
+/* What a note says to a booking with its key. */
+static uint8_t heard_booking(const yilgashe_note *note, const yilgashe_booking *booking)
 {
-    const yilgashe_note note = {player, kind, answer};
+    const uint8_t answer = note->answer;
+    const bool readable = answer == YILGASHE_ACCEPTED || answer == YILGASHE_CLOCK || answer == YILGASHE_ALREADY_WAITING ||
+                          answer == YILGASHE_HALL_FULL || answer == YILGASHE_NO_SUCH_GAME;
+    return readable && is_of_booking(note, booking) ? answer : (uint8_t)YILGASHE_KEY_CLASH;
+}
+
+static uint8_t heard_withdrawal(const yilgashe_note *note, uint64_t player)
+{
+    const uint8_t answer = note->answer;
+    const bool readable = answer == YILGASHE_ACCEPTED || answer == YILGASHE_NOT_WAITING;
+    return readable && note->kind == YILGASHE_WITHDRAWAL && note->player == player ? answer : (uint8_t)YILGASHE_KEY_CLASH;
+}
+
+static void take_note(yilgashe_hall *hall, uint64_t key, yilgashe_note note)
+{
     hall->keys[hall->noted] = key;
     hall->notes[hall->noted] = note;
     hall->noted++;
+}
+
+static void note_booking(yilgashe_hall *hall, uint64_t key, const yilgashe_booking *booking, uint8_t answer)
+{
+    const yilgashe_note note = {booking->player, booking->joined, booking->rating_bits, booking->party,
+                                booking->role,   booking->game,   YILGASHE_BOOKING,     answer};
+    take_note(hall, key, note);
+}
+
+static void note_withdrawal(yilgashe_hall *hall, uint64_t key, uint64_t player, uint8_t answer)
+{
+    const yilgashe_note note = {player, 0, 0, 0, 0, 0, YILGASHE_WITHDRAWAL, answer};
+    take_note(hall, key, note);
 }
 
 static uint8_t booking_answer(const yilgashe_hall *hall, const yilgashe_booking *booking)
@@ -72,13 +98,13 @@ static uint8_t book_in(yilgashe_hall *hall, uint64_t key, const yilgashe_booking
     }
     at = place_of(hall, key);
     if (at < hall->noted) {
-        return heard(hall->notes[at], YILGASHE_BOOKING, booking->player);
+        return heard_booking(&hall->notes[at], booking);
     }
     if (hall->noted == YILGASHE_MAX_KEYS) {
         return YILGASHE_BOOK_FULL;
     }
     answer = booking_answer(hall, booking);
-    take_note(hall, key, booking->player, YILGASHE_BOOKING, answer);
+    note_booking(hall, key, booking, answer);
     if (answer == YILGASHE_ACCEPTED) {
         hall->bookings[hall->waiting++] = *booking;
     }
@@ -101,14 +127,14 @@ static uint8_t withdraw_in(yilgashe_hall *hall, uint64_t key, uint64_t player)
     }
     at = place_of(hall, key);
     if (at < hall->noted) {
-        return heard(hall->notes[at], YILGASHE_WITHDRAWAL, player);
+        return heard_withdrawal(&hall->notes[at], player);
     }
     if (hall->noted == YILGASHE_MAX_KEYS) {
         return YILGASHE_BOOK_FULL;
     }
     at = booking_of(hall, player);
     answer = at < hall->waiting ? YILGASHE_ACCEPTED : YILGASHE_NOT_WAITING;
-    take_note(hall, key, player, YILGASHE_WITHDRAWAL, answer);
+    note_withdrawal(hall, key, player, answer);
     if (answer == YILGASHE_ACCEPTED) {
         remove_at(hall, at);
     }

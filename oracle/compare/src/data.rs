@@ -1,11 +1,13 @@
 //! What calls bring besides queues.
 
+mod bookings;
 mod calls;
 mod copies;
 mod halls;
 mod rules;
 mod searches;
 
+pub use bookings::*;
 pub use calls::*;
 pub use copies::*;
 pub use halls::*;

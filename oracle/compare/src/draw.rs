@@ -4,6 +4,7 @@
 
 mod choices;
 mod copies;
+mod keys;
 mod lists;
 mod rounds;
 mod rules;

@@ -13,7 +13,7 @@ pub use counter::{Counter, Library, Modelled};
 pub use counts::{Befriended, Counts, Held};
 pub use fair::Windows;
 
-use crate::data::{Answer, Call, List};
+use crate::data::{Answer, Call, List, Start};
 use crate::draw;
 use crate::rng::Rng;
 use crate::same::Same;
@@ -22,9 +22,9 @@ use demand::{Ledger, Mark};
 use fair::Turns;
 use friends::friends;
 use std::fmt::Debug;
-use yilgashe_sys::{Games, Hall, Note};
+use yilgashe_sys::{Hall, Note};
 
-/// Lists until so many calls are made, then a quarter as many single calls; `show` gets each difference in words.
+/// Lists until so many calls are made, then half as many single calls; `show` gets each difference in words.
 pub fn run<L: Counter, M: Counter>(seed: u64, calls: u64, show: &mut dyn FnMut(String)) -> Counts {
     let mut counts = Counts::default();
     while counts.calls < calls {
@@ -37,7 +37,7 @@ pub fn run<L: Counter, M: Counter>(seed: u64, calls: u64, show: &mut dyn FnMut(S
             show(format!("list {number} of seed {seed}, {difference}"));
         }
     }
-    for number in 0..calls / 4 {
+    for number in 0..calls / 2 {
         let (hall, call) = draw::single(&mut Rng::for_case(seed, "single", number));
         if let Err(difference) = judge_single::<L, M>(&hall, &call, &mut counts) {
             counts.differences += 1;
@@ -49,12 +49,12 @@ pub fn run<L: Counter, M: Counter>(seed: u64, calls: u64, show: &mut dyn FnMut(S
 
 /// Serves a list on both sides, to the first difference.
 pub fn judge<L: Counter, M: Counter>(list: &List, counts: &mut Counts) -> Result<(), String> {
-    let (mut library, mut model) = (L::open(list.games), M::open(list.games));
-    let (mut ledger, mut turns) = (Ledger::default(), Turns::default());
-    let mut kept: Vec<(&Call, Answer)> = Vec::new();
+    let (mut library, mut model) = (L::start(&list.start), M::start(&list.start));
     if !library.hall().same(&model.hall()) {
-        return Err("the empty hall is not empty".into());
+        return Err("the list starts from another hall".into());
     }
+    let (mut ledger, mut turns) = (Ledger::open(&library.hall()), Turns::default());
+    let mut kept: Vec<(&Call, Answer)> = Vec::new();
     for (place, call) in list.calls.iter().enumerate() {
         let before = library.hall();
         let answer = library.serve(call);
@@ -70,20 +70,23 @@ pub fn judge<L: Counter, M: Counter>(list: &List, counts: &mut Counts) -> Result
         });
         match marked.map_err(|difference| format!("call {place}: {difference}"))? {
             Mark::Resend => counts.resends += 1,
-            Mark::Original | Mark::Other => kept.push((call, answer)),
+            mark => {
+                counts.changed += u64::from(mark == Mark::Changed);
+                kept.push((call, answer));
+            }
         }
     }
     counts.windows.add(turns.windows()?);
-    without_resends::<L>(list.games, &kept, &library.hall())
+    without_resends::<L>(&list.start, &kept, &library.hall())
 }
 
 /// The list with resends left out: does it answer alike and end alike?
 fn without_resends<L: Counter>(
-    games: Games,
+    start: &Start,
     calls: &[(&Call, Answer)],
     end: &Hall,
 ) -> Result<(), String> {
-    let mut library = L::open(games);
+    let mut library = L::start(start);
     for (call, answer) in calls {
         let alone = library.serve(call);
         if !alone.same(answer) {

@@ -15,7 +15,7 @@ impl Same for f64 {
     }
 }
 
-/// All else exactly.
+/// All else exactly, ratings that come as bits too.
 macro_rules! exactly {
     ($($kind:ty),*) => {
         $(impl Same for $kind {
@@ -25,7 +25,7 @@ macro_rules! exactly {
         })*
     };
 }
-exactly!((), bool, u8, u32, u64, usize, Note);
+exactly!((), bool, u8, u32, u64, usize, Booking, Note);
 
 impl<T: Same> Same for [T] {
     fn same(&self, other: &Self) -> bool {
@@ -62,12 +62,6 @@ impl Same for QueueEntry {
             && self.rating.same(&other.rating)
             && self.party == other.party
             && self.role == other.role
-    }
-}
-
-impl Same for Booking {
-    fn same(&self, other: &Self) -> bool {
-        self.entry().same(&other.entry()) && self.game == other.game
     }
 }
 
@@ -165,6 +159,25 @@ mod tests {
         assert!(!one.same(&booking(&entry(2), 3)));
     }
 
+    /// Unlike floats: zeros of both signs differ, and NaNs with other bits.
+    #[test]
+    fn bookings_differ_in_every_bit_of_the_rating() {
+        let rated = |rating: f64| Booking {
+            rating_bits: rating.to_bits(),
+            ..Booking::default()
+        };
+        let nan = rated(f64::NAN);
+        assert!(nan.same(&nan.clone()));
+        assert!(!rated(0.0).same(&rated(-0.0)));
+        for bit in 0..64 {
+            let other = Booking {
+                rating_bits: nan.rating_bits ^ (1 << bit),
+                ..nan
+            };
+            assert!(!nan.same(&other), "{bit}");
+        }
+    }
+
     #[test]
     fn queues_count_up_to_len() {
         let queue = Queue::of(&[entry(1), entry(2)]);
@@ -191,19 +204,15 @@ mod tests {
 
     #[test]
     fn halls_count_up_to_their_numbers() {
-        let note = Note {
-            player: 1,
-            kind: 0,
-            answer: 9,
-        };
         let waiting = [booking(&entry(1), 0)];
+        let note = Note::of(&waiting[0], 9);
         let hall = Hall::of(Games::default(), &waiting, &[(1, note), (2, note)]);
         let mut other = hall;
         other.bookings[1] = booking(&entry(9), 0);
         (other.keys[2], other.notes[2].answer) = (9, 0);
         assert!(hall.same(&other));
-        let changes: [fn(&mut Hall); 13] = [
-            |hall| hall.bookings[0].rating = 3.0,
+        let changes: [fn(&mut Hall); 18] = [
+            |hall| hall.bookings[0].rating_bits += 1,
             |hall| hall.bookings[0].game = 1,
             |hall| hall.sizes[0].a = 1,
             |hall| hall.sizes[7].b = 1,
@@ -212,6 +221,11 @@ mod tests {
             |hall| hall.waiting = 2,
             |hall| hall.keys[1] = 9,
             |hall| hall.notes[1].player = 9,
+            |hall| hall.notes[1].joined = 9,
+            |hall| hall.notes[1].rating_bits += 1,
+            |hall| hall.notes[1].party = 9,
+            |hall| hall.notes[1].role = 9,
+            |hall| hall.notes[1].game = 9,
             |hall| hall.notes[1].kind = 1,
             |hall| hall.notes[1].answer = 0,
             |hall| hall.noted = 1,

@@ -1,7 +1,9 @@
 //! Corners of waiting friends, request 2.3: full rounds on small halls, which the library and the model answer alike.
 
+mod alike;
+
+use alike::{refusal, serve};
 use compare::data::{Call, FullRound, Round, Rows, Search, Sheets, nothing_brought};
-use compare::lists::{Counter, Counts, Library, Modelled, judge_single};
 use yilgashe_sys::{Booking, Games, Hall, RoundRules, SoftObjectives, TeamComposition};
 
 /// What is brought of parties: those of the roster, those of the bookings, or both.
@@ -88,16 +90,10 @@ impl Lounge {
 
 /// As the library answers, and the model too.
 fn seats(hall: &Hall, sizes: TeamComposition, call: &Call) -> (Option<Vec<u64>>, u64) {
-    alike(hall, call);
-    let answer = Library::with(hall).serve(call);
+    let (answer, _) = serve(hall, call);
     assert_eq!(answer.refusal, 0);
     let seated = answer.sheets.players[..sizes.a + sizes.b].to_vec();
     ((answer.count == 1).then_some(seated), answer.tried)
-}
-
-fn alike(hall: &Hall, call: &Call) {
-    let judged = judge_single::<Library, Modelled>(hall, call, &mut Counts::default());
-    assert_eq!(judged, Ok(()));
 }
 
 fn rules(kinds: Kinds) -> RoundRules {
@@ -233,8 +229,7 @@ fn friends_leave_one_choice_whatever_it_scores() {
     let friends = Lounge::of(&[(1, 7), (2, 0), (3, 7)]);
     let hall = friends.hall(PAIR);
     let unranked = friends.round(Kinds::Neither, f64::NAN);
-    alike(&hall, &unranked);
-    assert_eq!(Library::with(&hall).serve(&unranked).refusal, 5);
+    assert_eq!(refusal(&hall, &unranked), 5);
     let one = friends.round(Kinds::Waiting, f64::NAN);
     assert_eq!(seats(&hall, PAIR, &one), found(&[1, 3], 3));
 }

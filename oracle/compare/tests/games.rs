@@ -7,7 +7,7 @@ use compare::data::{Answer, Call, GAMES, Round, Search};
 use compare::lists::{Counter, Modelled};
 use compare::model::CLOCK_LIMIT;
 use compare::model::hall::{Hall as Model, no_such_game};
-use wrong::{found, run, said};
+use wrong::{are_found, found, found_in_many, noted_now, run, said};
 use yilgashe_sys::TeamComposition;
 
 /// The games behind this one, and it itself as the eighth; from game 0, where there is none.
@@ -296,14 +296,6 @@ wrong!(LeavesOtherGamesBookings, hall, call, {
     answer
 });
 
-/// The note that this call made, as the last one, if it made one.
-fn noted_now(before: usize, hall: &mut Model) -> Option<&mut u8> {
-    match hall.notes.len() > before {
-        true => hall.notes.last_mut().map(|note| &mut note.answer),
-        false => None,
-    }
-}
-
 wrong!(ForgetsThirteen, hall, call, {
     let answer = hall.answer(call);
     if answer.refusal == 13 && call.key().is_some() {
@@ -324,8 +316,8 @@ wrong!(NineByGame, hall, call, {
     }
     match noted_now(noted, hall) {
         None => answer,
-        Some(answer) => {
-            *answer = 0;
+        Some(note) => {
+            note.answer = 0;
             hall.waiting.push(*booking);
             Answer::keyed(0)
         }
@@ -336,8 +328,8 @@ wrong!(FourBeforeThirteen, hall, call, {
     let noted = hall.notes.len();
     let answer = hall.answer(call);
     match (call, answer.refusal, noted_now(noted, hall)) {
-        (Call::Book { booking, .. }, 13, Some(answer)) if booking.joined > CLOCK_LIMIT => {
-            *answer = 4;
+        (Call::Book { booking, .. }, 13, Some(note)) if booking.joined > CLOCK_LIMIT => {
+            note.answer = 4;
             Answer::keyed(4)
         }
         _ => answer,
@@ -352,8 +344,8 @@ wrong!(NineBeforeThirteen, hall, call, {
         Call::Book { booking, .. } if answer.refusal == 13 && waits(booking.player) => {
             match noted_now(noted, hall) {
                 None => answer,
-                Some(answer) => {
-                    *answer = 9;
+                Some(note) => {
+                    note.answer = 9;
                     Answer::keyed(9)
                 }
             }
@@ -371,7 +363,7 @@ wrong!(TakesNoUnusedGame, hall, call, {
     match (call, answer.refusal) {
         (Call::Book { .. }, 0) if unused && hall.notes.len() > noted => {
             hall.waiting.pop();
-            *noted_now(noted, hall).expect("a note") = 13;
+            noted_now(noted, hall).expect("a note").answer = 13;
             Answer::keyed(13)
         }
         _ => answer,
@@ -406,20 +398,12 @@ fn what_few_calls_miss_is_named() {
     let missing = counts.missing();
     for name in [
         "8 in book",
-        "13 before 1 by the hall",
+        "4 by another game, before 6",
         "dispatch, past game 7",
+        "7 by the bits of a NaN",
     ] {
         assert!(missing.iter().any(|missed| missed == name), "{missing:?}");
     }
-}
-
-/// Of more calls, for what few of them reach.
-fn found_in_many<L: Counter>() -> usize {
-    run::<L, Modelled>(16_000).0.differences
-}
-
-fn are_found(others: &[(&str, usize)]) {
-    assert!(others.iter().all(|(_, count)| *count > 3), "{others:?}");
 }
 
 #[test]

@@ -5,9 +5,9 @@ mod wrong;
 
 use compare::data::{Answer, Call, FullRound, Round};
 use compare::lists::{Counter, Library, Modelled, Windows};
-use compare::model::hall::{Hall as Model, Kind, Note};
+use compare::model::hall::{Asked, Hall as Model, Kind, Note};
 use compare::model::{Choice, Greedy, Rule, earlier_place, friends_seated, longer_wait};
-use wrong::{found, run, said};
+use wrong::{are_found, found, found_in_many, run, said};
 use yilgashe_sys::{Booking, ProposedMatch, Queue, QueueEntry, TeamComposition};
 
 #[test]
@@ -25,6 +25,7 @@ fn every_refusal_and_every_sort_of_round_is_reached() {
         "{all} {kept} {tight}"
     );
     assert!(counts.lists > 50 && counts.resends > 1000 && counts.matches() > 1000);
+    assert!(counts.changed > 1000, "{}", counts.changed);
     for held in [counts.held, counts.held_single] {
         assert!(held.rust > 100 && held.model > 100, "{held:?}");
         assert!(held.parted > 30 && held.parted < held.model, "{held:?}");
@@ -68,8 +69,7 @@ wrong!(NotesClashes, hall, call, {
     {
         hall.notes.push(Note {
             key: *key,
-            kind: Kind::Withdrawal,
-            guest: *player,
+            asked: Asked::withdrawal(*player),
             answer: 7,
         });
     }
@@ -82,7 +82,7 @@ wrong!(HearsNotesOfNoCall, hall, call, {
     let answer = hall.answer(call);
     match (call, noted) {
         (Call::Withdraw { player, .. }, Some(note))
-            if note.kind != Kind::Booking && note.guest == *player =>
+            if note.asked.kind != Kind::Booking && note.asked.booking.player == *player =>
         {
             Answer::keyed(note.answer)
         }
@@ -434,43 +434,32 @@ wrong!(WritesBehindTheMatches, hall, call, {
 });
 
 /// Full rounds are few among the calls.
-fn found_in_full_rounds<L: Counter>() -> usize {
-    run::<L, Modelled>(16_000).0.differences
-}
-
 #[test]
 fn other_rules_for_friends_are_found_out() {
-    let others = [
-        ("parts friends", found_in_full_rounds::<PartsFriends>()),
-        (
-            "by the roster",
-            found_in_full_rounds::<FriendsByTheRoster>(),
-        ),
-        ("party 0", found_in_full_rounds::<PartyZeroMakesFriends>()),
-        (
-            "first entries",
-            found_in_full_rounds::<FirstEntriesMakeFriends>(),
-        ),
+    are_found(&[
+        ("parts friends", found_in_many::<PartsFriends>()),
+        ("by the roster", found_in_many::<FriendsByTheRoster>()),
+        ("party 0", found_in_many::<PartyZeroMakesFriends>()),
+        ("first entries", found_in_many::<FirstEntriesMakeFriends>()),
         (
             "in place of parties",
-            found_in_full_rounds::<FriendsInPlaceOfParties>(),
+            found_in_many::<FriendsInPlaceOfParties>(),
         ),
         (
             "parties in place",
-            found_in_full_rounds::<PartiesInPlaceOfFriends>(),
+            found_in_many::<PartiesInPlaceOfFriends>(),
         ),
-        ("of team A", found_in_full_rounds::<FriendsOfTeamA>()),
-        ("in one team", found_in_full_rounds::<FriendsInOneTeam>()),
-        ("one friend", found_in_full_rounds::<OneFriendIsEnough>()),
-        ("of all games", found_in_full_rounds::<FriendsOfAllGames>()),
-    ];
-    assert!(others.iter().all(|(_, count)| *count > 3), "{others:?}");
+        ("of team A", found_in_many::<FriendsOfTeamA>()),
+        ("in one team", found_in_many::<FriendsInOneTeam>()),
+        ("one friend", found_in_many::<OneFriendIsEnough>()),
+        ("of all games", found_in_many::<FriendsOfAllGames>()),
+    ]);
 }
 
 #[test]
 fn other_rules_are_found_out() {
     assert_eq!(found::<Modelled>(), 0);
-    let others = [
+    are_found(&[
         ("books resends", found::<BooksResends>()),
         ("forgets refusal 9", found::<ForgetsRefusalNine>()),
         ("notes clashes", found::<NotesClashes>()),
@@ -487,8 +476,7 @@ fn other_rules_are_found_out() {
         ("ties by place", found::<TiesGoByPlace>()),
         ("ties by shorter wait", found::<TiesGoToTheShorterWait>()),
         ("wait before distance", found::<WaitGoesBeforeDistance>()),
-    ];
-    assert!(others.iter().all(|(_, count)| *count > 3), "{others:?}");
+    ]);
 }
 
 /// In joining order alone, where ties by place are right.
@@ -497,22 +485,21 @@ fn the_rust_finds_out_other_rules_for_picks() {
     fn parted<L: Counter>() -> usize {
         said::<L>(4000, &["the Rust answers otherwise"])
     }
-    let others = [
+    are_found(&[
         ("ties by shorter wait", parted::<TiesGoToTheShorterWait>()),
         ("wait before distance", parted::<WaitGoesBeforeDistance>()),
-    ];
-    assert!(others.iter().all(|(_, count)| *count > 3), "{others:?}");
+    ]);
     assert_eq!(parted::<TiesGoByPlace>(), 0);
 }
 
 /// How many lists break demand 3.
 fn broken<L: Counter>() -> usize {
-    said::<L>(4000, &["demand 3", "without resends"])
+    said::<L>(8000, &["demand 3", "without resends"])
 }
 
 #[test]
 fn demand_3_finds_what_breaks_it() {
-    let others = [
+    are_found(&[
         ("books resends", broken::<BooksResends>()),
         ("forgets refusal 9", broken::<ForgetsRefusalNine>()),
         ("notes clashes", broken::<NotesClashes>()),
@@ -520,8 +507,7 @@ fn demand_3_finds_what_breaks_it() {
         ("worst choice", broken::<TakesTheWorst>()),
         ("parts friends", broken::<PartsFriends>()),
         ("hands out nothing later", broken::<HandsOutNothingLater>()),
-    ];
-    assert!(others.iter().all(|(_, count)| *count > 3), "{others:?}");
+    ]);
     // Any of the highest meets it.
     assert_eq!(broken::<TakesTheFirstOfEqualBest>(), 0);
 }

@@ -1,7 +1,9 @@
 //! Corners of games, request 2.4: calls on small halls, which the library and the model answer alike.
 
-use compare::data::{Answer, Call, Columns, Round, Search, Sheets};
-use compare::lists::{Counter, Counts, Library, Modelled, judge_single};
+mod alike;
+
+use alike::{refusal, serve};
+use compare::data::{Call, Columns, Round, Search, Sheets};
 use compare::model::CLOCK_LIMIT;
 use yilgashe_sys::{Booking, Games, Hall, NONE_SERVED, TeamComposition};
 
@@ -11,7 +13,7 @@ const PAIR: TeamComposition = TeamComposition { a: 1, b: 1 };
 fn hall(games: Games, waiting: &[u8]) -> Hall {
     let booking = |(player, &game)| Booking {
         player,
-        rating: 1000.0,
+        rating_bits: 1000.0f64.to_bits(),
         game,
         ..Booking::default()
     };
@@ -36,19 +38,6 @@ fn dispatch() -> Call {
 
 fn book(booking: Booking) -> Call {
     Call::Book { key: 7, booking }
-}
-
-/// As the library answers, and the model too; and the hall that it leaves.
-fn serve(hall: &Hall, call: &Call) -> (Answer, Hall) {
-    let judged = judge_single::<Library, Modelled>(hall, call, &mut Counts::default());
-    assert_eq!(judged, Ok(()));
-    let mut library = Library::with(hall);
-    let answer = library.serve(call);
-    (answer, library.hall())
-}
-
-fn refusal(hall: &Hall, call: &Call) -> u8 {
-    serve(hall, call).0.refusal
 }
 
 fn waiting(hall: &Hall) -> Vec<u64> {
@@ -137,7 +126,7 @@ fn every_call_but_a_round_of_no_game_is_over_limit() {
     }
 }
 
-/// Guest 1 waits; 13 goes before 4 and 9, and is noted for the guest, whatever he asks for next.
+/// Guest 1 waits; 13 goes before 4 and 9, and is noted for the whole booking: mended it needs a new key.
 #[test]
 fn thirteen_is_noted_with_the_key() {
     let lounge = hall(Games::of([PAIR]), &[0]);
@@ -155,7 +144,7 @@ fn thirteen_is_noted_with_the_key() {
         ..stray
     };
     assert_eq!(refusal(&after, &book(stray)), 13);
-    assert_eq!(refusal(&after, &book(mended)), 13);
+    assert_eq!(refusal(&after, &book(mended)), 7);
     assert_eq!(refusal(&after, &Call::Withdraw { key: 7, player: 1 }), 7);
     // 9 looks at all games, and an unused one is one.
     let other = Booking { game: 7, ..mended };

@@ -37,7 +37,7 @@ pub fn booking(number: u64, waiting: u64) -> Booking {
     Booking {
         player: number,
         joined: if number < waiting { number } else { u64::MAX },
-        rating: 1000.0 + number as f64,
+        rating_bits: (1000.0 + number as f64).to_bits(),
         ..Booking::default()
     }
 }

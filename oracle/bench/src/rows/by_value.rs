@@ -24,15 +24,25 @@ pub fn booking(seed: u64) -> Row {
 
 /// Any of the noted ones.
 pub fn booking_again(seed: u64) -> Row {
-    named("booking sent again", seed, |rng| {
-        let first = first_key(rng);
-        let number = rng.below(NOTED as usize) as u64;
-        Booked {
-            hall: noted_hall(first, WAITING),
-            key: first + number,
-            booking: booking::booking(number, WAITING),
-        }
-    })
+    named("booking sent again", seed, |rng| again(rng, 0))
+}
+
+/// Any of the noted ones, in another role: all else is as it was noted.
+pub fn booking_changed(seed: u64) -> Row {
+    named("booking changed", seed, |rng| again(rng, 1))
+}
+
+fn again(rng: &mut Rng, role: u32) -> Booked {
+    let first = first_key(rng);
+    let number = rng.below(NOTED as usize) as u64;
+    Booked {
+        hall: noted_hall(first, WAITING),
+        key: first + number,
+        booking: Booking {
+            role,
+            ..booking::booking(number, WAITING)
+        },
+    }
 }
 
 /// Of any who wait, under a new key.
@@ -169,6 +179,8 @@ mod tests {
     #[test]
     fn answers_of_the_rows() {
         assert_eq!(booking(1).answer, "accepted");
+        assert_eq!(booking_again(1).answer, "refusal 4");
+        assert_eq!(booking_changed(1).answer, "refusal 7");
         assert_eq!(withdrawal(1).answer, "accepted");
         assert_eq!(round(1).answer, "0 seated");
     }

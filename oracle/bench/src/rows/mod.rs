@@ -35,6 +35,7 @@ pub const ROWS: &[fn(u64) -> Row] = &[
     booking::row,
     |seed| by_value::booking(seed).target(0.5),
     |seed| by_value::booking_again(seed).target(0.5),
+    |seed| by_value::booking_changed(seed).target(0.5),
     |seed| by_value::withdrawal(seed).target(0.5),
     |seed| by_value::round(seed).target(0.5),
     |seed| dispatch::row(seed).target(0.5),
@@ -95,16 +96,22 @@ fn agreed((count, laid): (usize, Sheets), formed: Formed, after: &Sheets) -> Str
 #[cfg(test)]
 mod tests {
     use super::*;
-    use crate::crowd::sheets;
+    use crate::crowd::{CLOCK, Crowd, objective, sheets};
     use crate::stack::depth;
+    use compare::rng::Rng;
+    use yilgashe_sys::{self as library, BeamSearch, Booking, Games, Hall};
 
-    /// Small enough for any thread.
-    const LIMIT: usize = 256 << 10;
-    /// Of a booking and a withdrawal, with the caller's copies of the hall and of the answer: an unoptimised caller makes more of them.
+    /// Half of what a caller is told to leave; an unoptimised one makes two copies of the hall more.
+    const LIMIT: usize = if cfg!(debug_assertions) {
+        384 << 10
+    } else {
+        256 << 10
+    };
+    /// Of a booking and a withdrawal, with the caller's copies of the hall and of the answer: one copy more is over it.
     const KEYED_LIMIT: usize = if cfg!(debug_assertions) {
         LIMIT
     } else {
-        100_000
+        175_000
     };
 
     /// Making a row holds both sides' answers against each other. Few entries keep the Rust's beam short, and are as deep for the
@@ -130,6 +137,7 @@ mod tests {
             booking::row(1),
             by_value::booking(1),
             by_value::booking_again(1),
+            by_value::booking_changed(1),
             by_value::withdrawal(1),
         ];
         are_within(rows, LIMIT);
@@ -143,6 +151,33 @@ mod tests {
             });
             assert!(depth <= limit, "{}: {depth} bytes", row.name);
         }
+    }
+
+    /// The deepest call of the hall, which is no row: the Rust's beam takes long.
+    #[test]
+    fn the_stack_of_a_beam_round_stays_small() {
+        let scene = Scene::of(64, (8, 8));
+        let crowd = Crowd::drawn(&mut Rng::new(1), &scene);
+        let bookings: Vec<Booking> = crowd.queue.waiting().iter().map(Booking::of).collect();
+        let hall = Hall::of(Games::of([scene.sizes()]), &bookings, &[]);
+        let (columns, mut sheets, mut count) = (crowd.columns(), sheets(), 0);
+        let depth = depth(|| {
+            let told = library::hall_beam_round(
+                hall,
+                BeamSearch { width: 32 },
+                0,
+                objective(),
+                CLOCK,
+                &columns.ids,
+                &columns.ratings,
+                &crowd.roster.deviations,
+                &mut sheets.players,
+                &mut sheets.qualities,
+            );
+            count = told.count;
+        });
+        assert_eq!(count, 4);
+        assert!(depth <= LIMIT, "{depth} bytes");
     }
 
     /// No match of the Rust's, and a sheet that was written to.

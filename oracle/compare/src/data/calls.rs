@@ -1,13 +1,31 @@
 //! The calls of the hall, and what they answer.
 
-use super::{Columns, Rows, Sheets};
-use yilgashe_sys::{Booking, Games, MatchObjective, RoundRules, SoftObjectives};
+use super::{Columns, Rows, Sheets, games_of};
+use yilgashe_sys::{Booking, Games, Hall, MatchObjective, RoundRules, SoftObjectives};
 
-/// The calls of an evening, from an empty hall with these games.
+/// The calls of an evening.
 #[derive(Clone, Debug)]
 pub struct List {
-    pub games: Games,
+    pub start: Start,
     pub calls: Vec<Call>,
+}
+
+/// What an evening's first call finds.
+#[derive(Clone, Debug)]
+pub enum Start {
+    /// An empty hall with these games.
+    Empty(Games),
+    /// A hall that was kept from before request 2.5.
+    Kept(Box<Hall>),
+}
+
+impl Start {
+    pub fn games(&self) -> Games {
+        match self {
+            Start::Empty(games) => *games,
+            Start::Kept(hall) => games_of(hall),
+        }
+    }
 }
 
 #[derive(Clone, Debug)]

@@ -1,14 +1,15 @@
-//! Lists of calls from an empty hall.
+//! Lists of calls from an empty hall, or from one that was kept.
 
+use super::keys::{changed, odd_rating, spoil};
 use super::rounds::{
     Which, beam_round, dispatch, full_round, greedy_round, is_listed, is_long, no_game, parts,
     which,
 };
 use super::searches::team_sizes;
 use super::{ODD_IDS, Ratings, Times, joined, late_time, later, rating, role, times};
-use crate::data::{Call, GAMES, List, Round};
+use crate::data::{Call, GAMES, List, Round, Start};
 use crate::model::TEAM_LIMIT;
-use crate::model::hall::{self, no_such_game};
+use crate::model::hall::{self, Asked, Kind, Note, guest_alone, no_such_game};
 use crate::rng::Rng;
 use std::array::from_fn;
 use yilgashe_sys::{Booking, Games, Queue, TeamComposition};
@@ -26,6 +27,8 @@ enum Mood {
     Turns,
     /// More keys come than the book holds.
     Long,
+    /// From a hall that was kept from before request 2.5, with many resends and clashes.
+    Kept,
     /// A size is over 8, that of a game in use: nobody gets in.
     Closed,
     /// A size is over 8, of a game that is not used, if there is one.
@@ -138,36 +141,76 @@ fn mood(number: u64) -> Mood {
         1 | 6 | 11 => Mood::Crowd,
         4 | 8 | 14 => Mood::Friends,
         2 | 7 | 12 | 15 => Mood::Turns,
+        5 | 13 => Mood::Kept,
         9 if number % 32 == 9 => Mood::Closed,
         9 => Mood::ClosedElsewhere,
         _ => Mood::Plain,
     }
 }
 
-/// From an empty hall.
 pub fn list(rng: &mut Rng, number: u64) -> List {
     let mood = mood(number);
     let calls = match mood {
         Mood::Plain => rng.between(50, 300),
         Mood::Friends | Mood::Crowd => rng.between(150, 300),
+        Mood::Kept => rng.between(250, 400),
         Mood::Turns => rng.between(200, 400),
         Mood::Long => rng.between(1300, 1400),
         Mood::Closed | Mood::ClosedElsewhere => rng.between(50, 80),
     };
-    let mut evening = Evening::open(rng, mood);
+    let mut evening = match mood {
+        Mood::Kept => Evening::under_way(rng, number),
+        _ => Evening::open(rng, mood),
+    };
     List {
-        games: evening.hall.games,
+        start: match mood {
+            Mood::Kept => Start::Kept(Box::new(evening.hall.stored())),
+            _ => Start::Empty(evening.hall.games),
+        },
         calls: (0..calls).map(|_| evening.next(rng)).collect(),
     }
 }
 
 impl Evening {
+    /// After some calls, as it was kept before request 2.5; with a full hall or with few guests, by its number.
+    fn under_way(rng: &mut Rng, number: u64) -> Self {
+        let (mood, calls) = match number % 16 {
+            5 => (Mood::Crowd, rng.between(160, 240)),
+            _ => (Mood::Plain, rng.between(40, 80)),
+        };
+        let mut evening = Evening::open(rng, mood);
+        for _ in 0..calls {
+            evening.next(rng);
+        }
+        let notes = evening.hall.notes.iter();
+        let notes = notes.map(|note| evening.brought_over(rng, note));
+        evening.hall.notes = notes.collect();
+        evening.mood = Mood::Kept;
+        evening
+    }
+
+    /// A note as it was kept, by kind and guest. Every other one holds anything else besides, which counts for nothing.
+    fn brought_over(&self, rng: &mut Rng, note: &Note) -> Note {
+        let Asked { kind, booking } = note.asked;
+        let asked = Asked {
+            kind: match kind {
+                Kind::Booking => Kind::Older,
+                other => other,
+            },
+            booking: match rng.one_in(2) {
+                true => self.booking(rng, booking.player),
+                false => guest_alone(booking.player),
+            },
+        };
+        Note { asked, ..*note }
+    }
+
     fn open(rng: &mut Rng, mood: Mood) -> Self {
         let size = match mood {
             Mood::Plain | Mood::Closed | Mood::ClosedElsewhere => rng.pick(&[3, 6, 12, 24, 40]),
             Mood::Friends => rng.pick(&[8, 12, 18]),
             Mood::Crowd | Mood::Turns => 100,
-            Mood::Long => rng.pick(&[8, 30]),
+            Mood::Long | Mood::Kept => rng.pick(&[8, 30]),
         };
         let start = u64::from(rng.one_in(4));
         let mut guests: Vec<u64> = (start..start + size).collect();
@@ -206,11 +249,12 @@ impl Evening {
             return Call::Round(Box::new(dispatch(rng, &self.queue())));
         }
         let shares = match self.mood {
-            Mood::Plain | Mood::Closed | Mood::ClosedElsewhere => [10, 3, 4, 2, 5],
-            Mood::Friends => [16, 2, 2, 1, 8],
-            Mood::Crowd => [60, 2, 4, 2, 3],
-            Mood::Turns => [60, 1, 3, 1, 2],
-            Mood::Long => [20, 12, 2, 1, 1],
+            Mood::Plain | Mood::Closed | Mood::ClosedElsewhere => [10, 3, 4, 5, 5],
+            Mood::Friends => [16, 2, 2, 2, 8],
+            Mood::Crowd => [60, 2, 5, 7, 3],
+            Mood::Turns => [60, 1, 3, 3, 2],
+            Mood::Long => [20, 12, 2, 2, 1],
+            Mood::Kept => [8, 4, 8, 8, 4],
         };
         let kinds = [
             Next::Book,
@@ -326,7 +370,7 @@ impl Evening {
 
     /// For a game that is used, mostly; else for any, or for none.
     fn booking(&self, rng: &mut Rng, player: u64) -> Booking {
-        let game = match rng.below(32) {
+        let game = match rng.below(24) {
             0 => no_game(rng),
             1 | 2 => rng.below(GAMES) as u8,
             _ => rng.pick(&self.games),
@@ -338,7 +382,10 @@ impl Evening {
                 true => late_time(rng),
                 false => self.joined(rng),
             },
-            rating: rating(rng, self.ratings),
+            rating_bits: match rng.one_in(12) {
+                true => odd_rating(rng),
+                false => rating(rng, self.ratings).to_bits(),
+            },
             party: party(rng, &self.parties),
             role: role(rng),
             game,
@@ -370,37 +417,64 @@ impl Evening {
         }
     }
 
-    /// An earlier call again; a booking at times with all but its guest changed, which its key does not stand for.
-    fn resend(&self, rng: &mut Rng) -> Call {
-        let earlier = self.keyed[rng.below(self.keyed.len())].clone();
-        match earlier {
-            Call::Book { key, booking } if rng.one_in(2) => Call::Book {
-                key,
-                booking: self.booking(rng, booking.player),
-            },
-            other => other,
+    /// One with a refused key often.
+    fn earlier(&self, rng: &mut Rng) -> Call {
+        let any = |rng: &mut Rng| self.keyed[rng.below(self.keyed.len())].clone();
+        let one = any(rng);
+        let accepted = |note: &Note| note.answer == 0;
+        match self.noted(&one).is_some_and(accepted) && rng.one_in(2) {
+            true => any(rng),
+            false => one,
         }
     }
 
-    /// An earlier call's key for another guest or another kind of call.
+    /// What is noted beside the call's key.
+    fn noted(&self, call: &Call) -> Option<&Note> {
+        let mut notes = self.hall.notes.iter();
+        notes.find(|note| Some(note.key) == call.key())
+    }
+
+    /// An earlier call again; a booking that was noted before request 2.5 with all but its guest changed, at times.
+    fn resend(&self, rng: &mut Rng) -> Call {
+        let mut call = self.earlier(rng);
+        let noted = self.noted(&call).map(|note| note.asked.kind);
+        if let Call::Book { booking, .. } = &mut call
+            && noted == Some(Kind::Older)
+            && rng.one_in(2)
+        {
+            *booking = self.booking(rng, booking.player);
+            spoil(rng, booking);
+        }
+        call
+    }
+
+    /// An earlier call's key for what it does not stand for: one field of the booking or all but its guest are others, or it comes from another
+    /// guest or with another kind of call.
     fn clash(&self, rng: &mut Rng) -> Call {
         let other = rng.pick(&self.guests);
-        let same_guest = rng.one_in(2);
-        match self.keyed[rng.below(self.keyed.len())] {
-            Call::Withdraw { key, player } if same_guest => Call::Book {
-                key,
-                booking: self.booking(rng, player),
-            },
-            Call::Book { key, booking } if same_guest => Call::Withdraw {
+        match (self.earlier(rng), rng.below(8)) {
+            (Call::Book { key, booking }, 0) => Call::Withdraw {
                 key,
                 player: booking.player,
             },
-            Call::Book { key, .. } => Call::Book {
+            (Call::Book { key, booking }, 1) => Call::Book {
+                key,
+                booking: self.booking(rng, booking.player),
+            },
+            (Call::Book { key, .. }, 2) => Call::Book {
                 key,
                 booking: self.booking(rng, other),
             },
-            Call::Withdraw { key, .. } => Call::Withdraw { key, player: other },
-            Call::Round(_) => unreachable!("a round has no key"),
+            (Call::Book { key, booking }, _) => Call::Book {
+                key,
+                booking: changed(rng, booking),
+            },
+            (Call::Withdraw { key, player }, ..4) => Call::Book {
+                key,
+                booking: self.booking(rng, player),
+            },
+            (Call::Withdraw { key, .. }, _) => Call::Withdraw { key, player: other },
+            (Call::Round(_), _) => unreachable!("a round has no key"),
         }
     }
 }
@@ -408,7 +482,9 @@ impl Evening {
 /// One game or some, with those between them unused; and their sizes.
 fn games(rng: &mut Rng, mood: Mood) -> (Vec<u8>, Games) {
     let count = match mood {
-        Mood::Plain | Mood::Closed | Mood::ClosedElsewhere => rng.pick(&[1, 2, 3, GAMES]),
+        Mood::Plain | Mood::Kept | Mood::Closed | Mood::ClosedElsewhere => {
+            rng.pick(&[1, 2, 3, GAMES])
+        }
         Mood::Friends => rng.pick(&[1, 2, 3]),
         Mood::Crowd => rng.pick(&[1, 1, 2, 3]),
         Mood::Turns => rng.pick(&[3, 5, GAMES, GAMES]),
@@ -457,7 +533,10 @@ mod tests {
     fn lists_in_joining_order_and_others() {
         let in_order = |number: &u64| {
             let list = list(&mut Rng::for_case(1, "hall", *number), *number);
-            let mut hall = hall::Hall::open(list.games);
+            let Start::Empty(games) = list.start else {
+                return false;
+            };
+            let mut hall = hall::Hall::open(games);
             list.calls.iter().all(|call| {
                 hall.answer(call);
                 hall.waiting.is_sorted_by_key(|booking| booking.joined)
@@ -465,6 +544,30 @@ mod tests {
         };
         let kept = (0..64).filter(in_order).count();
         assert!((20..48).contains(&kept), "{kept}");
+    }
+
+    /// Two of sixteen, with no whole note at first; both full halls and others, and notes with and without what counts for nothing.
+    #[test]
+    fn lists_from_a_kept_hall() {
+        let kept = (0..64).filter_map(|number| {
+            let list = list(&mut Rng::for_case(1, "hall", number), number);
+            match list.start {
+                Start::Kept(hall) => Some(hall::Hall::read(&hall)),
+                Start::Empty(_) => None,
+            }
+        });
+        let kept: Vec<hall::Hall> = kept.collect();
+        assert_eq!(kept.len(), 8);
+        let full = kept.iter().filter(|hall| hall.waiting.len() > 40).count();
+        assert!((2..7).contains(&full), "{full}");
+        for hall in kept {
+            let kinds = hall.notes.iter().map(|note| note.asked.kind);
+            let (older, left): (Vec<Kind>, Vec<Kind>) = kinds.partition(|k| *k == Kind::Older);
+            assert!(older.len() > 10 && left.iter().all(|k| *k == Kind::Withdrawal));
+            let alone = |note: &&Note| note.asked.booking == guest_alone(note.asked.booking.player);
+            let alone = hall.notes.iter().filter(alone).count();
+            assert!((5..hall.notes.len() - 5).contains(&alone), "{alone}");
+        }
     }
 
     #[test]
@@ -482,8 +585,11 @@ mod tests {
     /// One game alone, some, or all; a size over 8 in one list of sixteen.
     #[test]
     fn lists_of_few_games_and_of_many() {
-        let games =
-            (0..320).map(|number| list(&mut Rng::for_case(1, "hall", number), number).games);
+        let games = (0..320).map(|number| {
+            list(&mut Rng::for_case(1, "hall", number), number)
+                .start
+                .games()
+        });
         let games: Vec<Games> = games.collect();
         let used = |games: &Games| games.sizes.iter().filter(|s| s.a.max(s.b) > 0).count();
         for count in [1, 2, 3, GAMES] {

@@ -35,7 +35,7 @@ pub(super) fn which(rng: &mut Rng, [greedy, beam, full, dispatch]: [usize; 4]) -
 
 /// A number above 7.
 pub(super) fn no_game(rng: &mut Rng) -> u8 {
-    rng.pick(&[8, 9, 128, 254, 255])
+    rng.pick(&[8, 9, 128, 200, 254, 255])
 }
 
 fn round(rng: &mut Rng, queue: &Queue, search: Search) -> Round {

@@ -1,5 +1,6 @@
 //! Single calls on halls of any kind, which no list of calls need lead to.
 
+use super::keys::{changed, odd_rating, spoil};
 use super::lists::{enlarge, parties, party, seats, some_games};
 use super::rounds::{
     CHOICES, Which, beam_round, dispatch, full_round, greedy_round, is_listed, is_long, no_game,
@@ -9,31 +10,34 @@ use super::searches::{some_seats, tie};
 use super::{LONG, ODD_IDS, Scale, entry, late_time, player, queue};
 use crate::data::{Call, GAMES, Round, Search, booking, entries_for, games_of, sizes_for};
 use crate::model::QUEUE_LIMIT;
-use crate::model::hall::NOTE_LIMIT;
+use crate::model::hall::{NOTE_LIMIT, guest_alone};
 use crate::rng::Rng;
 use std::array::from_fn;
-use yilgashe_sys::{Booking, Hall, NONE_SERVED, Note, Queue, QueueEntry, TeamComposition};
+use yilgashe_sys::{
+    BOOKING, Booking, Hall, NONE_SERVED, Note, OLDER_BOOKING, Queue, QueueEntry, TeamComposition,
+    WITHDRAWAL,
+};
 
 /// A hall and a call. Guests may wait twice, for two games too, or for none, or have joined late; the hall may be over its limits, and
 /// what is noted beside the call's key may be none of any call.
 pub fn single(rng: &mut Rng) -> (Hall, Call) {
     let waiting = waiting(rng);
     let mut hall = noting(rng, &waiting);
-    let call = match rng.below(7) {
-        0 => Call::Book {
+    let call = match rng.below(8) {
+        0 | 1 => Call::Book {
             key: key(rng, &hall),
             booking: asked(rng, &waiting),
         },
-        1 => Call::Withdraw {
+        2 => Call::Withdraw {
             key: key(rng, &hall),
             player: player(rng, &waiting),
         },
         _ => Call::Round(Box::new(round(rng, &mut hall))),
     };
     let call = if rng.one_in(3) {
-        again(rng, &hall, call)
-    } else {
         call
+    } else {
+        again(rng, &hall, call)
     };
     if rng.one_in(3) {
         misnote(rng, &mut hall, &call);
@@ -70,24 +74,27 @@ fn befriend(rng: &mut Rng, waiting: &mut [QueueEntry]) {
     }
 }
 
-/// A booking for any game, at times for none.
+/// A booking for any game, at times for none; its rating is a zero or a NaN in one of two.
 fn asked(rng: &mut Rng, waiting: &Queue) -> Booking {
     let entry = entry(rng, waiting);
-    if !rng.one_in(6) {
-        return booking(&entry, rng.below(GAMES) as u8);
+    let mut asked = booking(&entry, rng.below(GAMES) as u8);
+    if rng.one_in(6) {
+        asked.game = no_game(rng);
+        if rng.one_in(4) {
+            asked.joined = late_time(rng);
+        }
     }
-    let joined = match rng.one_in(4) {
-        true => late_time(rng),
-        false => entry.joined,
-    };
-    booking(&QueueEntry { joined, ..entry }, no_game(rng))
+    if rng.one_in(2) {
+        asked.rating_bits = odd_rating(rng);
+    }
+    asked
 }
 
 /// A round of a game that somebody waits for, mostly; or a dispatch.
 fn round(rng: &mut Rng, hall: &mut Hall) -> Round {
     let game = game(rng, hall);
     let own = Queue::of(&entries_for(hall.booked(), game));
-    let round = match which(rng, [3, 2, 5, 3]) {
+    let round = match which(rng, [3, 2, 6, 3]) {
         Which::Greedy => greedy_round(rng, game, &own),
         Which::Beam => beam_round(rng, game, &own),
         Which::Full => {
@@ -160,22 +167,10 @@ fn noting(rng: &mut Rng, queue: &Queue) -> Hall {
     };
     let mut keys: Vec<u64> = (0..NOTE_LIMIT as u64).collect();
     rng.shuffle(&mut keys);
-    let note = |_| {
-        let kind = rng.below(2) as u8;
-        let answer = match kind {
-            0 => rng.pick(&[0, 4, 9, 10, 13]),
-            _ => rng.pick(&[0, 11]),
-        };
-        Note {
-            player: player(rng, queue),
-            kind,
-            answer,
-        }
-    };
     let mut hall = Hall {
         bookings: queue.entries.map(|entry| Booking::of(&entry)),
         waiting: queue.len,
-        notes: from_fn(note),
+        notes: from_fn(|_| some_note(rng, queue)),
         keys: from_fn(|place| keys[place]),
         noted,
         sizes: [TeamComposition::default(); GAMES],
@@ -183,6 +178,29 @@ fn noting(rng: &mut Rng, queue: &Queue) -> Hall {
     };
     open_games(rng, &mut hall);
     hall
+}
+
+/// Of a whole booking, mostly one that gets such an answer, of a withdrawal, or of an older booking; of the last two the guest alone is
+/// set, mostly.
+fn some_note(rng: &mut Rng, queue: &Queue) -> Note {
+    let kind = rng.weighted(&[(3, BOOKING), (2, WITHDRAWAL), (2, OLDER_BOOKING)]);
+    let answer = match kind {
+        WITHDRAWAL => rng.pick(&[0, 11]),
+        _ => rng.pick(&[0, 4, 9, 10, 13]),
+    };
+    let mut held = match kind != BOOKING && !rng.one_in(3) {
+        true => guest_alone(player(rng, queue)),
+        false => asked(rng, queue),
+    };
+    match answer {
+        4 if kind == BOOKING && !rng.one_in(3) => held.joined = late_time(rng),
+        13 if kind == BOOKING && !rng.one_in(3) => held.game = no_game(rng),
+        _ => {}
+    }
+    Note {
+        kind,
+        ..Note::of(&held, answer)
+    }
 }
 
 /// Spreads the bookings over one game or more, some of them over none, and gives games their sizes, one over 8 at times. Any game was
@@ -226,20 +244,31 @@ fn noted_place(rng: &mut Rng, hall: &Hall) -> usize {
     rng.below(hall.answered().len())
 }
 
-/// The call with a noted key and its guest, where there is one: its resend if the kinds agree, else a clash.
+/// The call with a noted key and its guest, where there is one: the noted booking, or one with a field changed; of an older note's guest any
+/// booking. Where the kinds differ it is a clash.
 fn again(rng: &mut Rng, hall: &Hall, other: Call) -> Call {
     if hall.noted == 0 {
         return other;
     }
     let place = noted_place(rng, hall);
-    let (key, Note { player, kind, .. }) = (hall.keys[place], hall.notes[place]);
-    match (kind, other) {
-        (0, Call::Book { booking, .. }) => Call::Book {
-            key,
-            booking: Booking { player, ..booking },
-        },
-        (_, Call::Withdraw { .. }) => Call::Withdraw { key, player },
-        (_, other) => other,
+    let (key, note) = (hall.keys[place], hall.notes[place]);
+    let player = note.player;
+    match other {
+        Call::Book { .. } if note.kind == BOOKING => {
+            let held = note.booking();
+            let booking = match rng.one_in(3) {
+                true => held,
+                false => changed(rng, held),
+            };
+            Call::Book { key, booking }
+        }
+        Call::Book { mut booking, .. } => {
+            booking.player = player;
+            spoil(rng, &mut booking);
+            Call::Book { key, booking }
+        }
+        Call::Withdraw { .. } => Call::Withdraw { key, player },
+        other => other,
     }
 }
 
@@ -250,7 +279,7 @@ fn misnote(rng: &mut Rng, hall: &mut Hall, call: &Call) {
     };
     let note = &mut hall.notes[place];
     match rng.one_in(2) {
-        true => note.kind = rng.pick(&[0, 1, 2, 3, 255]),
+        true => note.kind = rng.pick(&[0, 1, 2, 3, 3, 4, 255]),
         false => note.answer = rng.pick(&[0, 1, 4, 7, 8, 9, 10, 11, 12, 13, 14, 255]),
     }
 }
@@ -284,13 +313,20 @@ mod tests {
         assert!(seen(twofold) > 100);
         let falls = |hall: &Hall| !model::never_falls(hall.queue().waiting());
         assert!((400..1400).contains(&seen(falls)));
-        let noted = |wanted: fn(&Note) -> bool| {
+        let noted = |wanted: &dyn Fn(&Note) -> bool| {
             let notes = drawn.iter().filter_map(|(hall, call)| noted(hall, call));
-            notes.filter(wanted).count()
+            notes.filter(|note| wanted(note)).count()
         };
-        assert!(noted(|note| note.kind > 1) > 10);
-        assert!(noted(|note| note.kind == 0 && ![0, 4, 9, 10, 13].contains(&note.answer)) > 5);
-        assert!(noted(|note| note.kind == 1 && ![0, 11].contains(&note.answer)) > 5);
+        assert!(noted(&|note| note.kind > OLDER_BOOKING) > 10);
+        let unheard = |note: &Note| ![0, 4, 9, 10, 13].contains(&note.answer);
+        assert!(noted(&|note| note.kind == BOOKING && unheard(note)) > 5);
+        assert!(noted(&|note| note.kind == OLDER_BOOKING && unheard(note)) > 5);
+        assert!(noted(&|note| note.kind == WITHDRAWAL && ![0, 11].contains(&note.answer)) > 5);
+        let alone = |note: &Note| note.booking() == guest_alone(note.player);
+        for kind in [WITHDRAWAL, OLDER_BOOKING] {
+            assert!(noted(&|note| note.kind == kind && alone(note)) > 20);
+            assert!(noted(&|note| note.kind == kind && !alone(note)) > 20);
+        }
     }
 
     #[test]

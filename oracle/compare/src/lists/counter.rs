@@ -1,15 +1,22 @@
 //! Who serves calls: the library, or the model.
 
-use crate::data::{Answer, BeamRound, Call, FullRound, Round, Search, game_in, games_of};
+use crate::data::{Answer, BeamRound, Call, FullRound, Round, Search, Start, game_in};
 use crate::model::OVER_LIMIT;
-use crate::model::hall::{self, Kind, NO_SUCH_GAME, Note, no_such_game, over_limit};
-use yilgashe_sys::{self as library, BeamSearch, Games, Hall, Keyed, NONE_SERVED, Rounded};
+use crate::model::hall::{self, NO_SUCH_GAME, no_such_game, over_limit};
+use yilgashe_sys::{self as library, BeamSearch, Games, Hall, Keyed, Rounded};
 
-pub trait Counter {
+pub trait Counter: Sized {
     /// Nobody waits, no key is noted, and no game was served.
     fn open(games: Games) -> Self;
     /// With this hall, of any kind.
     fn with(hall: &Hall) -> Self;
+    /// As a list begins.
+    fn start(start: &Start) -> Self {
+        match start {
+            Start::Empty(games) => Self::open(*games),
+            Start::Kept(hall) => Self::with(hall),
+        }
+    }
     fn serve(&mut self, call: &Call) -> Answer;
     /// As the last call left it.
     fn hall(&self) -> Hall;
@@ -150,12 +157,7 @@ impl Counter for Modelled {
         if over_limit(hall.waiting, hall.noted) {
             return Modelled::Over(Box::new(*hall));
         }
-        Modelled::Within(hall::Hall {
-            waiting: hall.booked().to_vec(),
-            notes: hall.answered().map(note).collect(),
-            games: games_of(hall),
-            served: game_in(hall.served),
-        })
+        Modelled::Within(hall::Hall::read(hall))
     }
 
     /// Over its limits a hall gives 1 to every call, but 13 to a round of no game, and nothing changes.
@@ -171,40 +173,8 @@ impl Counter for Modelled {
 
     fn hall(&self) -> Hall {
         match self {
-            Modelled::Within(hall) => {
-                let answered: Vec<(u64, library::Note)> = hall.notes.iter().map(noted).collect();
-                Hall {
-                    served: hall.served.unwrap_or(NONE_SERVED),
-                    ..Hall::of(hall.games, &hall.waiting, &answered)
-                }
-            }
+            Modelled::Within(hall) => hall.stored(),
             Modelled::Over(hall) => **hall,
         }
-    }
-}
-
-fn noted(note: &Note) -> (u64, library::Note) {
-    let beside = library::Note {
-        player: note.guest,
-        kind: match note.kind {
-            Kind::Booking => 0,
-            Kind::Withdrawal => 1,
-            Kind::Neither(number) => number,
-        },
-        answer: note.answer,
-    };
-    (note.key, beside)
-}
-
-fn note((key, beside): (u64, library::Note)) -> Note {
-    Note {
-        key,
-        kind: match beside.kind {
-            0 => Kind::Booking,
-            1 => Kind::Withdrawal,
-            number => Kind::Neither(number),
-        },
-        guest: beside.player,
-        answer: beside.answer,
     }
 }

@@ -83,6 +83,8 @@ pub struct Counts {
     /// Those of the lists; of a list with a difference not all are made.
     pub calls: u64,
     pub resends: u64,
+    /// Those that bring an original's key and anything else.
+    pub changed: u64,
     pub differences: usize,
     /// Greedy rounds of lists, and single ones.
     pub held: Held,
@@ -170,10 +172,11 @@ impl Counts {
         let all = ("all of lists", self.in_lists());
         let lines: Vec<String> = rows.chain([all]).map(line).collect();
         let lists = format!(
-            "hall: {} lists, {} calls, {} resends, {} matches, {} differences",
+            "hall: {} lists, {} calls, {} resends, {} changed, {} matches, {} differences",
             self.lists,
             self.calls,
             self.resends,
+            self.changed,
             self.matches(),
             self.differences
         );

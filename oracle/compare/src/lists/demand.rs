@@ -1,32 +1,28 @@
 //! Demand 3's sentences, held against the calls of a list and the library's answers to them.
 
 use crate::data::{Answer, Call, Round, Search, entries_for, game_in, games_of, sizes_for};
-use crate::model::hall::{Kind, NOTE_LIMIT};
-use crate::model::{Choice, doubled};
+use crate::model::hall::{self as model, Asked, KEY_CLASH, NOTE_LIMIT, Note};
+use crate::model::{Choice, OVER_LIMIT, doubled};
 use crate::same::Same;
 use yilgashe_sys::{Booking, Hall, ProposedMatch, Queue};
 
 /// What a call is by the list alone.
 #[derive(Clone, Copy, Debug, PartialEq)]
 pub enum Mark {
+    /// The first call with its key.
     Original,
+    /// An original again, the same in all that its key stands for.
     Resend,
-    /// A round, or a keyed call that is neither.
+    /// An original's key, and anything else.
+    Changed,
+    /// A round, or a call with a new key where the book is full.
     Other,
 }
 
-/// The first call with its key, and its answer.
-struct Original {
-    key: u64,
-    kind: Kind,
-    guest: u64,
-    answer: u8,
-}
-
 /// What the calls so far come to, by their answers.
-#[derive(Default)]
 pub struct Ledger {
-    originals: Vec<Original>,
+    /// With the answers that they got.
+    originals: Vec<Note>,
     waiting: Vec<Booking>,
     accepted: usize,
     withdrawn: usize,
@@ -34,6 +30,18 @@ pub struct Ledger {
 }
 
 impl Ledger {
+    /// Whoever waits in a hall that was kept was accepted, and its notes are of originals.
+    pub fn open(hall: &Hall) -> Self {
+        let model::Hall { waiting, notes, .. } = model::Hall::read(hall);
+        Ledger {
+            originals: notes,
+            accepted: waiting.len(),
+            waiting,
+            withdrawn: 0,
+            seated: 0,
+        }
+    }
+
     /// Enters a call; an error names the sentence that is broken.
     pub fn enter(
         &mut self,
@@ -51,13 +59,14 @@ impl Ledger {
             let idle = match mark {
                 Mark::Original => false,
                 Mark::Resend => true,
-                Mark::Other => answer.refusal > 0,
+                Mark::Changed | Mark::Other => answer.refusal > 0,
             };
             ensure(
                 !idle || after.same(before),
                 "a resend or a refused call changes the hall",
             )?;
-            self.balance(before, after)?;
+            self.balance(after)?;
+            self.book_kept(mark, answer, before, after)?;
             games_kept(answer, before, after)?;
             Ok(mark)
         });
@@ -68,7 +77,7 @@ impl Ledger {
     }
 
     fn book(&mut self, key: u64, booking: &Booking, refusal: u8) -> Result<Mark, &'static str> {
-        let mark = self.mark(key, Kind::Booking, booking.player, refusal)?;
+        let mark = self.mark(key, Asked::booking(*booking), refusal)?;
         if mark == Mark::Original && refusal == 0 {
             self.accepted += 1;
             self.waiting.push(*booking);
@@ -77,7 +86,7 @@ impl Ledger {
     }
 
     fn withdraw(&mut self, key: u64, guest: u64, refusal: u8) -> Result<Mark, &'static str> {
-        let mark = self.mark(key, Kind::Withdrawal, guest, refusal)?;
+        let mark = self.mark(key, Asked::withdrawal(guest), refusal)?;
         if mark == Mark::Original && refusal == 0 {
             self.withdrawn += 1;
             self.waiting.retain(|booking| booking.player != guest);
@@ -85,26 +94,30 @@ impl Ledger {
         Ok(mark)
     }
 
-    /// By the keys of the list alone; a resend has to answer as its original.
-    fn mark(&mut self, key: u64, kind: Kind, guest: u64, answer: u8) -> Result<Mark, &'static str> {
+    /// By the keys of the list alone. A resend has to answer as its original, and anything else under that key is 7; but a hall over its
+    /// limits, which refused the original with 1, goes on doing so.
+    fn mark(&mut self, key: u64, asked: Asked, answer: u8) -> Result<Mark, &'static str> {
         match self.originals.iter().find(|first| first.key == key) {
-            Some(first) if (first.kind, first.guest) == (kind, guest) => {
+            Some(first) if first.asked.stands_for(&asked) => {
                 ensure(
                     first.answer == answer,
                     "a resend answers unlike its original",
                 )?;
                 Ok(Mark::Resend)
             }
+            Some(first) => {
+                let closed = (first.answer, answer) == (OVER_LIMIT, OVER_LIMIT);
+                ensure(
+                    answer == KEY_CLASH || closed,
+                    "an original's key with anything else is not refused with 7",
+                )?;
+                Ok(Mark::Changed)
+            }
             None if self.originals.len() < NOTE_LIMIT => {
-                self.originals.push(Original {
-                    key,
-                    kind,
-                    guest,
-                    answer,
-                });
+                self.originals.push(Note { key, asked, answer });
                 Ok(Mark::Original)
             }
-            _ => Ok(Mark::Other),
+            None => Ok(Mark::Other),
         }
     }
 
@@ -144,8 +157,8 @@ impl Ledger {
         Ok(Mark::Other)
     }
 
-    /// Nobody and no note appears or vanishes otherwise.
-    fn balance(&self, before: &Hall, after: &Hall) -> Result<(), &'static str> {
+    /// Nobody appears or vanishes otherwise.
+    fn balance(&self, after: &Hall) -> Result<(), &'static str> {
         let waiting = after.booked();
         ensure(
             waiting.same(&self.waiting),
@@ -156,9 +169,26 @@ impl Ledger {
             "accepted is not waiting + withdrawn + seated",
         )?;
         let guests: Vec<u64> = waiting.iter().map(|booking| booking.player).collect();
-        ensure(!doubled(&guests), "a guest waits twice")?;
+        ensure(!doubled(&guests), "a guest waits twice")
+    }
+
+    /// Notes stay as they are, older ones too, and an original's is all that its key stands for; nothing else is noted.
+    fn book_kept(
+        &self,
+        mark: Mark,
+        answer: &Answer,
+        before: &Hall,
+        after: &Hall,
+    ) -> Result<(), &'static str> {
         let kept = before.answered().eq(after.answered().take(before.noted));
-        ensure(kept, "a note is dropped or changed")
+        ensure(kept, "a note is dropped or changed")?;
+        let own = (mark == Mark::Original && answer.refusal != OVER_LIMIT)
+            .then(|| self.originals.last().map(Note::stored));
+        let noted = after.answered().skip(before.noted);
+        ensure(
+            noted.eq(own.flatten()),
+            "what is noted is not the call and its answer",
+        )
     }
 }
 

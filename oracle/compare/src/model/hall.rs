@@ -2,6 +2,7 @@
 //! paper's order.
 
 mod rounds;
+mod stored;
 
 use super::{CLOCK, OVER_LIMIT, QUEUE_LIMIT, first, large, late};
 use crate::data::{Answer, Call, GAMES, entries_for, sizes_for};
@@ -21,6 +22,8 @@ pub const NO_SUCH_GAME: u8 = 13;
 pub enum Kind {
     Booking,
     Withdrawal,
+    /// A booking that was noted before request 2.5, by its guest alone. No call notes it.
+    Older,
     /// A number that stands for none, which no call notes.
     Neither(u8),
 }
@@ -29,26 +32,70 @@ impl Kind {
     /// What a new key's call of this kind can be answered.
     fn answers(self) -> &'static [u8] {
         match self {
-            Kind::Booking => &[0, CLOCK, ALREADY_WAITING, HALL_FULL, NO_SUCH_GAME],
+            Kind::Booking | Kind::Older => &[0, CLOCK, ALREADY_WAITING, HALL_FULL, NO_SUCH_GAME],
             Kind::Withdrawal => &[0, NOT_WAITING],
             Kind::Neither(_) => &[],
         }
     }
 }
 
-/// A keyed call and its answer: 0 is accepted, n is refusal n.
+/// What a keyed call asks for; of a withdrawal the guest alone is set.
+#[derive(Clone, Copy, Debug, PartialEq)]
+pub struct Asked {
+    pub kind: Kind,
+    pub booking: Booking,
+}
+
+impl Asked {
+    pub fn booking(booking: Booking) -> Self {
+        let kind = Kind::Booking;
+        Asked { kind, booking }
+    }
+
+    pub fn withdrawal(guest: u64) -> Self {
+        Asked {
+            kind: Kind::Withdrawal,
+            booking: guest_alone(guest),
+        }
+    }
+
+    /// Does a key that was noted for this stand for the other call? For a whole booking, every field of it; of what was noted before request 2.5, for
+    /// any booking of the guest.
+    pub fn stands_for(&self, other: &Asked) -> bool {
+        let guest = self.booking.player == other.booking.player;
+        match (self.kind, other.kind) {
+            (Kind::Booking, Kind::Booking) => self.booking == other.booking,
+            (Kind::Withdrawal, Kind::Withdrawal) | (Kind::Older, Kind::Booking) => guest,
+            _ => false,
+        }
+    }
+}
+
+/// A booking of which nothing but the guest is known.
+pub fn guest_alone(player: u64) -> Booking {
+    Booking {
+        player,
+        ..Booking::default()
+    }
+}
+
+/// A keyed call and its answer: 0 is accepted, n is refusal n. In a hall that was handed in fields may be set that no call sets.
 #[derive(Clone, Copy, Debug, PartialEq)]
 pub struct Note {
     pub key: u64,
-    pub kind: Kind,
-    pub guest: u64,
+    pub asked: Asked,
     pub answer: u8,
 }
 
 impl Note {
-    /// Was it noted of such a call? Not if its answer is none that such a call can get.
-    fn is_of(&self, kind: Kind, guest: u64) -> bool {
-        (self.kind, self.guest) == (kind, guest) && kind.answers().contains(&self.answer)
+    /// Is its answer one that such a call can get?
+    pub fn is_readable(&self) -> bool {
+        self.asked.kind.answers().contains(&self.answer)
+    }
+
+    /// What it says to a call with its key, if anything.
+    fn says(&self, asked: &Asked) -> Option<u8> {
+        (self.is_readable() && self.asked.stands_for(asked)).then_some(self.answer)
     }
 }
 
@@ -83,14 +130,12 @@ impl Hall {
 
     /// A booking under a key; the answer is 0 or a refusal.
     pub fn book(&mut self, key: u64, booking: Booking) -> u8 {
-        self.keyed(key, Kind::Booking, booking.player, |hall| {
-            hall.append(booking)
-        })
+        self.keyed(key, Asked::booking(booking), |hall| hall.append(booking))
     }
 
     /// A withdrawal under a key; the answer is 0 or a refusal.
     pub fn withdraw(&mut self, key: u64, guest: u64) -> u8 {
-        self.keyed(key, Kind::Withdrawal, guest, |hall| hall.remove(guest))
+        self.keyed(key, Asked::withdrawal(guest), |hall| hall.remove(guest))
     }
 
     /// Any call.
@@ -133,22 +178,16 @@ impl Hall {
         circle.find(|game| self.has_enough(*game))
     }
 
-    fn keyed(&mut self, key: u64, kind: Kind, guest: u64, act: impl FnOnce(&mut Hall) -> u8) -> u8 {
+    fn keyed(&mut self, key: u64, asked: Asked, act: impl FnOnce(&mut Hall) -> u8) -> u8 {
         if self.is_over() {
             return OVER_LIMIT;
         }
         match self.notes.iter().find(|note| note.key == key) {
-            Some(note) if note.is_of(kind, guest) => note.answer,
-            Some(_) => KEY_CLASH,
+            Some(note) => note.says(&asked).unwrap_or(KEY_CLASH),
             None if self.notes.len() == NOTE_LIMIT => BOOK_FULL,
             None => {
                 let answer = act(self);
-                self.notes.push(Note {
-                    key,
-                    kind,
-                    guest,
-                    answer,
-                });
+                self.notes.push(Note { key, asked, answer });
                 answer
             }
         }
@@ -191,10 +230,7 @@ mod tests {
     use super::*;
 
     fn booking(player: u64) -> Booking {
-        Booking {
-            player,
-            ..Booking::default()
-        }
+        guest_alone(player)
     }
 
     fn for_game(player: u64, game: u8) -> Booking {
@@ -226,7 +262,8 @@ mod tests {
             ..booking(1)
         };
         assert_eq!(hall.book(1, late), 4);
-        assert_eq!(hall.book(1, booking(1)), 4);
+        assert_eq!(hall.book(1, late), 4);
+        assert_eq!(hall.book(1, booking(1)), 7);
         assert_eq!(hall.withdraw(2, 1), 11);
         assert_eq!(hall.book(3, booking(1)), 0);
         assert_eq!(hall.book(4, late), 4);
@@ -275,25 +312,148 @@ mod tests {
     #[test]
     fn a_note_of_no_call_clashes() {
         let answered = |kind, answer| {
-            let note = Note {
-                key: 7,
-                kind,
-                guest: 1,
-                answer,
-            };
-            let mut hall = Hall {
-                notes: vec![note],
-                ..Hall::default()
-            };
+            let mut hall = noting(kind, booking(1), answer);
             (hall.book(7, booking(1)), hall.withdraw(7, 1))
         };
         for answer in 0..=14 {
             let booked = [0, 4, 9, 10, 13].contains(&answer).then_some(answer);
             let left = [0, 11].contains(&answer).then_some(answer);
             assert_eq!(answered(Kind::Booking, answer), (booked.unwrap_or(7), 7));
+            assert_eq!(answered(Kind::Older, answer), (booked.unwrap_or(7), 7));
             assert_eq!(answered(Kind::Withdrawal, answer), (7, left.unwrap_or(7)));
-            assert_eq!(answered(Kind::Neither(2), answer), (7, 7));
+            assert_eq!(answered(Kind::Neither(3), answer), (7, 7));
         }
+    }
+
+    /// Key 7 is noted, with this beside it, and nobody waits.
+    fn noting(kind: Kind, booking: Booking, answer: u8) -> Hall {
+        let asked = Asked { kind, booking };
+        Hall {
+            notes: vec![Note {
+                key: 7,
+                asked,
+                answer,
+            }],
+            ..Hall::default()
+        }
+    }
+
+    /// Guest 1 with something in every field, and the same with one field changed.
+    fn whole_and_changed() -> (Booking, [Booking; 6]) {
+        let whole = Booking {
+            player: 1,
+            joined: 2,
+            rating_bits: 1000.0f64.to_bits(),
+            party: 3,
+            role: 4,
+            game: 5,
+        };
+        let rating_bits = whole.rating_bits + 1;
+        let changed = [
+            Booking { player: 9, ..whole },
+            Booking { joined: 9, ..whole },
+            Booking {
+                rating_bits,
+                ..whole
+            },
+            Booking { party: 9, ..whole },
+            Booking { role: 9, ..whole },
+            Booking { game: 7, ..whole },
+        ];
+        (whole, changed)
+    }
+
+    #[test]
+    fn a_key_stands_for_the_whole_booking() {
+        let (whole, changed) = whole_and_changed();
+        let mut hall = Hall::default();
+        assert_eq!(hall.book(7, whole), 0);
+        for other in changed {
+            assert_eq!(hall.book(7, other), 7, "{other:?}");
+            assert_eq!(hall.book(7, whole), 0);
+        }
+        assert_eq!((hall.waiting.len(), hall.notes.len()), (1, 1));
+        assert_eq!(hall.notes[0].asked, Asked::booking(whole));
+    }
+
+    /// Both zeros differ, and NaNs with other bits.
+    #[test]
+    fn a_key_stands_for_the_bits_of_the_rating() {
+        let rated = |rating_bits| Booking {
+            rating_bits,
+            ..booking(1)
+        };
+        let (zero, nan) = (0.0f64.to_bits(), f64::NAN.to_bits());
+        for bits in [zero, zero | 1 << 63, nan, nan + 1, (nan + 1) ^ 1 << 51] {
+            let mut hall = Hall::default();
+            assert_eq!(hall.book(7, rated(bits)), 0);
+            assert_eq!(hall.book(7, rated(bits)), 0);
+            for bit in 0..64 {
+                assert_eq!(hall.book(7, rated(bits ^ 1 << bit)), 7, "{bits:x} {bit}");
+            }
+            assert_eq!(hall.waiting, [rated(bits)]);
+        }
+    }
+
+    /// Noted with 4, 13, 9 and 10: the same again, and 7 with anything changed, corrected or worse.
+    #[test]
+    fn a_refused_key_stands_for_the_whole_booking() {
+        let (whole, changed) = whole_and_changed();
+        let late = Booking {
+            joined: CLOCK_LIMIT + 1,
+            ..whole
+        };
+        let no_game = Booking { game: 200, ..whole };
+        let mut hall = Hall::default();
+        assert_eq!((hall.book(1, late), hall.book(1, late)), (4, 4));
+        assert_eq!((hall.book(2, no_game), hall.book(2, no_game)), (13, 13));
+        assert_eq!((hall.book(3, whole), hall.book(4, whole)), (0, 9));
+        hall.waiting.resize(QUEUE_LIMIT, booking(8));
+        assert_eq!(hall.book(5, changed[0]), 10);
+        assert_eq!(hall.withdraw(6, 1), 0);
+        assert_eq!((hall.book(4, whole), hall.book(5, changed[0])), (9, 10));
+        for key in 1..=5 {
+            let noted = hall.notes[key as usize - 1].asked.booking;
+            let mut others = changed.to_vec();
+            others.extend([whole, late, no_game]);
+            others.retain(|other| *other != noted);
+            for other in others {
+                assert_eq!(hall.book(key, other), 7, "{key} {other:?}");
+            }
+        }
+        assert_eq!((hall.waiting.len(), hall.notes.len()), (63, 6));
+    }
+
+    /// Whatever else the note holds, and whatever else the booking brings; it stays as it is.
+    #[test]
+    fn an_older_note_stands_for_its_guest() {
+        let (whole, mut changed) = whole_and_changed();
+        changed[5].game = 200;
+        changed[1].joined = u64::MAX;
+        for held in [booking(1), whole] {
+            for answer in [0, 4, 9, 10, 13] {
+                let mut hall = noting(Kind::Older, held, answer);
+                let before = hall.notes.clone();
+                assert_eq!(hall.book(7, whole), answer);
+                assert_eq!(hall.book(7, changed[0]), 7);
+                for other in &changed[1..] {
+                    assert_eq!(hall.book(7, *other), answer, "{other:?}");
+                }
+                assert_eq!(hall.withdraw(7, 1), 7);
+                assert!(hall.waiting.is_empty() && hall.notes == before);
+            }
+        }
+    }
+
+    /// Whatever else the note holds.
+    #[test]
+    fn a_withdrawal_is_noted_by_its_guest() {
+        let mut hall = Hall::default();
+        assert_eq!(hall.withdraw(7, 1), 11);
+        assert_eq!(hall.notes[0].asked.booking, booking(1));
+        let mut odd = noting(Kind::Withdrawal, whole_and_changed().0, 11);
+        assert_eq!((odd.withdraw(7, 1), odd.withdraw(7, 2)), (11, 7));
+        assert_eq!(odd.book(7, whole_and_changed().0), 7);
     }
 
     #[test]
@@ -312,7 +472,8 @@ mod tests {
         let mut hall = Hall::default();
         assert_eq!(hall.book(1, for_game(1, 7)), 0);
         assert_eq!(hall.book(2, for_game(2, 8)), 13);
-        assert_eq!(hall.book(2, for_game(2, 0)), 13);
+        assert_eq!(hall.book(2, for_game(2, 8)), 13);
+        assert_eq!(hall.book(2, for_game(2, 0)), 7);
         assert_eq!(hall.book(2, for_game(3, 8)), 7);
         assert_eq!(hall.withdraw(2, 2), 7);
         assert_eq!(hall.book(3, for_game(1, 255)), 13);

@@ -166,9 +166,9 @@ mod tests {
 
     /// Guests from 1 with these ratings wait for game 0, which has these sizes.
     fn hall(ratings: &[f64], a: usize, b: usize) -> Hall {
-        let booking = |(player, &rating)| Booking {
+        let booking = |(player, rating): (u64, &f64)| Booking {
             player,
-            rating,
+            rating_bits: rating.to_bits(),
             ..Booking::default()
         };
         Hall {
@@ -449,8 +449,7 @@ mod tests {
     fn note() -> super::super::Note {
         super::super::Note {
             key: 0,
-            kind: super::super::Kind::Booking,
-            guest: 0,
+            asked: super::super::Asked::withdrawal(0),
             answer: 0,
         }
     }
