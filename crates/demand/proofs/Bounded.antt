@@ -5,7 +5,7 @@ use mathlib.Core.Bool.{true, false, not, _||_}
 use mathlib.Core.List.{List, [], _∷_, _++_, map}
 use mathlib.Core.Option.{Option, none, some, Option·getD}
 use native.Mathlib.Omega.{arith}
-use borrow.Author.Tests.{ltb-false, le-ltb}
+use borrow.Author.Tests.{le-ltb}
 use lib.Dec.{eqb, ltb}
 use lib.ListN.{length, length-append}
 use Rattle.base.specs.Refusals.{Outcome, refused, gives}
@@ -19,6 +19,7 @@ use Rattle.hall.specs.Games.{noLastGame, gamesOver, nextGame}
 use Rattle.hall.specs.Hall.{HallState, bookedBy, withoutGuests, isOver, Deed, book, withdraw, deal, signed, fresh, judge}
 use Rattle.hall.specs.Rounds.{Round, of-game, dispatch, RoundCall, Found, ready, servedBy, roundFound, departing}
 use Rattle.hall.proofs.Circle.{next-low}
+use Rattle.hall.proofs.Turns.{within}
 use Rattle.demand.specs.Calls.{Call, keyed, round, no-kind, step, after}
 use Rattle.demand.specs.Older.{Stated}
 use Rattle.demand.proofs.Deals.{book-elim, withdraw-elim}
@@ -35,8 +36,8 @@ pub record Bounded (h : HallState) : Type 0 where
 
 module _ (h : HallState) (e : isOver h ≡ false) where
   -- the numbers stated
-  stated-fit : (ltb 64 (h .waiting .size) ≡ false) × (ltb 1024 (h .log .size) ≡ false)
-  stated-fit = neither _ _ (neither (ltb 64 (h .waiting .size) || ltb 1024 (h .log .size)) _ e .0)
+  stated-fit : (h .waiting .size ≤ 64) × (h .log .size ≤ 1024)
+  stated-fit = within (h .waiting .size) (h .log .size) (h .sizes) (h .served) refl e
 
   -- the games
   games-fit : gamesOver (h .sizes) (h .served) ≡ false
@@ -54,8 +55,8 @@ module _ (h : HallState) (e : isOver h ≡ false) where
   pub bounded : Stated h → Bounded h
   bounded s =
       record {
-        few = omega (arith, s .waiting, ltb-false 64 (h .waiting .size) (stated-fit .0));
-        noted = omega (arith, s .noted, ltb-false 1024 (h .log .size) (stated-fit .1));
+        few = omega (arith, s .waiting, stated-fit .0);
+        noted = omega (arith, s .noted, stated-fit .1);
         within = e;
       }
 
@@ -104,7 +105,7 @@ round-bounded h c b = go (roundFound h c)
         record {
           few = few;
           noted = b .noted;
-          within = rw (le-ltb 64 _ few, stated-fit h (b .within) .1, sizes-fit h (b .within), served-fits h (c .round) (last-fits h (b .within)));
+          within = rw (le-ltb 64 _ few, le-ltb 1024 _ (stated-fit h (b .within) .1), sizes-fit h (b .within), served-fits h (c .round) (last-fits h (b .within)));
         }
 
 -- ---- any call, any list of calls
