@@ -12,11 +12,11 @@ use Rattle.base.specs.Lists.{keep}
 use Rattle.base.proofs.Cases.{cond-true, cond-false}
 use Rattle.base.proofs.Loops.{keep-append}
 use Rattle.hall.specs.declared.Hall.{Hall}
-use Rattle.hall.specs.Hall.{HallState, hallOf, isOver, same, Deed, book, withdraw, contentOf, signed, known, clash}
+use Rattle.hall.specs.Hall.{HallState, KeyRecord, hallOf, isOlder, isOver, same, Deed, book, withdraw, contentOf, signed, known, clash}
 use Rattle.hall.proofs.KeyLaws.{paired-fits}
 use Rattle.hall.proofs.Sameness.{same-older, same-no-withdrawal}
 use Rattle.demand.specs.Calls.{Call, keyed, answered, step, after}
-use Rattle.demand.specs.Older.{isOlder, Stated, NotedBefore, AsBefore, Older}
+use Rattle.demand.specs.Older.{olderNotes, Stated, NotedBefore, AsBefore, Older}
 use Rattle.demand.proofs.Keys.{judge-noted}
 use Rattle.demand.proofs.Handled.{step-judged, noteOf, log-elim, found-after}
 use Rattle.demand.proofs.Bounded.{bounded, bounded-after}
@@ -24,19 +24,19 @@ use Rattle.demand.proofs.Bounded.{bounded, bounded-after}
 -- ---- no call makes such a note
 
 -- what is noted of a call is none
-none-older : (h : HallState) (k : ℕ) (d : Deed) → keep isOlder (noteOf h k d ∷ []) ≡ []
+none-older : (h : HallState) (k : ℕ) (d : Deed) → olderNotes (noteOf h k d ∷ []) ≡ []
 unfolding keep
 none-older h k (book b) = refl
 none-older h k (withdraw p) = refl
 
 -- so a step leaves those that are there
-stay-step : (h : HallState) (c : Call) → keep isOlder (step h c .hall .log .records) ≡ keep isOlder (h .log .records)
+stay-step : (h : HallState) (c : Call) → olderNotes (step h c .hall .log .records) ≡ olderNotes (h .log .records)
 stay-step h c =
-    log-elim (λ rs. keep isOlder rs ≡ keep isOlder (h .log .records)) h c refl
-    (λ k d p e. keep-append isOlder (h .log .records) (noteOf h k d ∷ []) ∙ rw (none-older h k d) (append-nil (keep isOlder (h .log .records))))
+    log-elim (λ rs. olderNotes rs ≡ olderNotes (h .log .records)) h c refl
+    (λ k d p e. keep-append (λ (r : KeyRecord). isOlder (r .content .kind)) (h .log .records) (noteOf h k d ∷ []) ∙ rw (none-older h k d) (append-nil (olderNotes (h .log .records))))
 
 -- and so do any calls
-stay-after : (h : HallState) (cs : List Call) → keep isOlder (after h cs .log .records) ≡ keep isOlder (h .log .records)
+stay-after : (h : HallState) (cs : List Call) → olderNotes (after h cs .log .records) ≡ olderNotes (h .log .records)
 stay-after h [] = refl
 stay-after h (c ∷ cs) = stay-after (step h c .hall) cs ∙ stay-step h c
 

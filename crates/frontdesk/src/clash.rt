@@ -122,7 +122,7 @@ fn note_of(hall: Hall, key: u64) -> Noted {
 }
 
 // `key 7 stands for another booking`
-fn stands_for(key: u64, what: &[u8]) {
+fn about_key(key: u64, what: &[u8]) {
     print::text(b"key ");
     io::print_decimal(1, key);
     print::text(b" stands for ");
@@ -131,7 +131,7 @@ fn stands_for(key: u64, what: &[u8]) {
 
 // `key 7 stands for a booking of guest 12`
 fn of_guest(key: u64, what: &[u8], guest: u64) {
-    stands_for(key, what);
+    about_key(key, what);
     print::text(b" of guest ");
     io::print_decimal(1, guest);
     print::text(b"\n");
@@ -140,10 +140,10 @@ fn of_guest(key: u64, what: &[u8], guest: u64) {
 // The note of an older booking has only its guest, so it clashes by the guest alone.
 fn unlike(key: u64, note: Note, booking: Booking, from_row: u32) {
     if note.kind == 0 {
-        stands_for(key, b"another booking\n");
+        about_key(key, b"another booking\n");
         differences(note, booking, from_row);
     } else if note.kind == 2 {
-        stands_for(key, b"a booking of another guest\n");
+        about_key(key, b"a booking of another guest\n");
         guest(note.player, booking.player);
     } else {
         of_guest(key, b"a withdrawal", note.player);
@@ -191,7 +191,7 @@ pub fn withdrawal(hall: Hall, key: u64, player: u64) {
         return;
     };
     if note.kind == 1 {
-        stands_for(key, b"another withdrawal\n");
+        about_key(key, b"another withdrawal\n");
         guest(note.player, player);
     } else {
         of_guest(key, b"a booking", note.player);

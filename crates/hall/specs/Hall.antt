@@ -70,9 +70,13 @@ sameBooking a b =
     bookedBy (b .player) a && (eqb (a .game) (b .game) && (eqb (a .joined) (b .joined)
     && (eqb (a .«rating_bits») (b .«rating_bits») && (eqb (a .party) (b .party) && eqb (a .role) (b .role)))))
 
+-- is this the kind of a booking noted when only its guest was?
+abbrev pub isOlder : ℕ → Bool
+isOlder kind = eqb kind 2
+
 -- the kind of the call that left a note of this kind
 abbrev pub callKind : ℕ → ℕ
-callKind kind = cond (eqb kind 2) 0 kind
+callKind kind = cond (isOlder kind) 0 kind
 
 -- does a key that stands for the first know a call of the second? Whole bookings are compared; withdrawals, and "older notes, which hold only
 -- kind and guest", by kind and guest.
