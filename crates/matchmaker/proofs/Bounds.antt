@@ -1,4 +1,4 @@
--- "Quality lies within 0.0 to 1.0", whatever the difference, and is 0.0 where that is NaN.
+-- "Quality lies within 0.0 to 1.0", whatever the difference.
 use mathlib.Core.Path.{_≡_, refl, sym, _∙_, subst}
 use mathlib.Core.Bool.{Bool, true, false, cond, true≢false}
 use Prim.Native.Nat.{ℕ, zero, suc, _+_, _-_, _*_, _^_, _<_, _≤_}
@@ -16,13 +16,8 @@ use Rattle.roster.specs.Roster.{Roster, ratingsCheck}
 use Rattle.matchmaker.specs.declared.Quality.{Quality}
 use Rattle.matchmaker.specs.Quality.{MatchState, Bounded, overfull, qualityAt, qualityGiven, qualityRule, QualityPromise}
 
--- a difference of NaN gives 0.0
-pub quality-of-nan : qualityAt nan ≡ F.zero
-unfolding qualityAt F.minOf F.absOf div lt ne eq sub ofBits round
-quality-of-nan = refl
-
 -- neither NaN nor with a sign
-abbrev Unsigned : Float → Type 0
+abbrev pub Unsigned : Float → Type 0
 Unsigned nan = ⊥
 Unsigned (inf s) = s ≡ false
 Unsigned (fin s m e) = s ≡ false
@@ -39,20 +34,20 @@ united : (q k : ℕ) → Unsigned (units binary64 false q k)
 unfolding units
 united q k = picked (ltb (q * 2 ^ k) (2 ^ (low binary64 + suc (emax binary64)))) (suc (prec binary64)) q k (low binary64)
 
-rounded : (a c : ℕ) → Unsigned (round binary64 false a c)
+pub rounded : (a c : ℕ) → Unsigned (round binary64 false a c)
 rounded a c = subst Unsigned (sym (round-is binary64 false a c)) (united _ _)
 
 -- ---- a fraction up to 1, rounded, lies within 0.0 to 1.0
 
-zero-is : round binary64 false 0 1 ≡ F.zero
+pub zero-is : round binary64 false 0 1 ≡ F.zero
 unfolding round ofBits
 zero-is = refl
 
-one-is : round binary64 false 1 1 ≡ F.one
+pub one-is : round binary64 false 1 1 ≡ F.one
 unfolding round ofBits
 one-is = refl
 
-fraction : (a c : ℕ) → 0 < c → a ≤ c → Bounded (round binary64 false a c)
+pub fraction : (a c : ℕ) → 0 < c → a ≤ c → Bounded (round binary64 false a c)
 fraction a c C h = (
   subst (λ (z : Float). T (le z (round binary64 false a c))) zero-is (round-mono binary64 0 1 a c (omega arith) C (omega arith)),
   subst (λ (z : Float). T (le (round binary64 false a c) z)) one-is (round-mono binary64 a c 1 1 C (omega arith) (omega arith)),

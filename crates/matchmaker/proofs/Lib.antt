@@ -1,3 +1,4 @@
 pub mod Bounds
+pub mod FarApart
 pub mod Laws
 pub mod Rows

@@ -67,11 +67,18 @@ pub fn average(sum: f64, len: usize) -> f64
     sum / std::num::nearest_u64_to_f64(seats)
 }
 
-// The quality of two averages.
+// The quality of two averages. Most that a search tries are 400 points apart or more: they are not divided, nor is a NaN, which fails a test. The tests
+// come before `abs`: behind it the compiler would divide first and test then.
 pub fn quality_between(x: f64, y: f64) -> f64
     ensures { λ r. ⌜ r ≡ qualityBetween x y ⌝ }
 {
-    1.0 - base::min(base::abs(x - y) / 400.0, 1.0)
+    let difference = x - y;
+    if difference < 400.0 {
+        if -400.0 < difference {
+            return 1.0 - base::abs(difference) / 400.0;
+        }
+    }
+    0.0
 }
 
 // The sum with what the column says in these rows, in their order.
