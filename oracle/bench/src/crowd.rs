@@ -14,6 +14,8 @@ pub const CLOCK: u64 = 1_000_000_000_000_000;
 /// A guest joins at most every minute.
 const MINUTE: usize = 60_000_000_000;
 const ROLES: u32 = 4;
+/// So much further apart are the ratings of a crowd far apart: most of its teams are then 400 points apart and more.
+const TENFOLD: f64 = 10.0;
 
 #[derive(Clone)]
 pub struct Crowd {
@@ -36,10 +38,14 @@ impl Crowd {
             roster.regions.push(0);
         }
         rng.shuffle(&mut roster.roles);
-        Crowd {
+        let mut crowd = Crowd {
             queue: queue(rng, &roster),
             roster,
+        };
+        if scene.apart {
+            crowd.rate(|rating| TENFOLD * rating);
         }
+        crowd
     }
 
     /// Everybody's rating by this rule, in the queue and on the roster alike.

@@ -24,11 +24,15 @@ pub const ROWS: &[fn(u64) -> Row] = &[
     |seed| greedy::alike_unordered(seed, Scene::of(64, (5, 5))).target(5.0),
     |seed| beam::row(seed, Scene::of(64, (5, 5)), 32).target(100.0),
     |seed| beam::row(seed, Scene::of(64, (8, 8)), 32).target(100.0),
+    |seed| beam::row(seed, Scene::of(64, (5, 5)).apart(), 32).target(100.0),
     |seed| round::row(seed, Scene::of(20, (5, 5))).target(30.0),
+    |seed| round::row(seed, Scene::of(20, (5, 5)).apart()).target(30.0),
     |seed| round::befriended(seed, Scene::of(20, (5, 5))).target(30.0),
     |seed| nearest::row(seed, Scene::of(64, (5, 5))).target(2.0),
     |seed| seated::quality(seed, Scene::of(64, (5, 5))).target(1.0),
+    |seed| seated::quality(seed, Scene::of(64, (5, 5)).apart()).target(1.0),
     |seed| seated::score(seed, Scene::of(64, (5, 5))).target(1.0),
+    |seed| seated::score(seed, Scene::of(64, (5, 5)).apart()).target(1.0),
     |seed| round::alike(seed, Scene::of(20, (5, 5))),
     |seed| seated::quality(seed, Scene::of(64, (5, 5)).unsorted()),
     |seed| seated::score(seed, Scene::of(64, (5, 5)).unsorted()),
@@ -41,13 +45,14 @@ pub const ROWS: &[fn(u64) -> Row] = &[
     |seed| dispatch::row(seed).target(0.5),
 ];
 
-/// How many wait, the sizes of the teams, and whether the roster's rows ascend.
+/// How many wait, the sizes of the teams, whether the roster's rows ascend, and whether most teams are 400 points and more apart.
 #[derive(Clone, Copy)]
 pub struct Scene {
     pub entries: usize,
     pub a: usize,
     pub b: usize,
     pub ascending: bool,
+    pub apart: bool,
 }
 
 impl Scene {
@@ -57,6 +62,7 @@ impl Scene {
             a,
             b,
             ascending: true,
+            apart: false,
         }
     }
 
@@ -64,6 +70,14 @@ impl Scene {
     pub const fn unsorted(self) -> Self {
         Scene {
             ascending: false,
+            ..self
+        }
+    }
+
+    /// With ratings ten times as far apart.
+    pub const fn apart(self) -> Self {
+        Scene {
+            apart: true,
             ..self
         }
     }
@@ -79,10 +93,13 @@ impl Scene {
 impl Display for Scene {
     fn fmt(&self, f: &mut Formatter<'_>) -> Result {
         write!(f, "{} entries, {}+{}", self.entries, self.a, self.b)?;
-        match self.ascending {
-            true => Ok(()),
-            false => write!(f, ", rows in any order"),
+        if !self.ascending {
+            write!(f, ", rows in any order")?;
         }
+        if self.apart {
+            write!(f, ", far apart")?;
+        }
+        Ok(())
     }
 }
 
@@ -125,11 +142,15 @@ mod tests {
             greedy::unordered(1, Scene::of(64, (5, 5))),
             greedy::alike_unordered(1, Scene::of(64, (5, 5))),
             beam::row(1, Scene::of(18, (8, 8)), 32),
+            beam::row(1, Scene::of(18, (8, 8)).apart(), 32),
             round::row(1, Scene::of(20, (8, 8))),
+            round::row(1, Scene::of(20, (8, 8)).apart()),
             round::befriended(1, Scene::of(20, (8, 8))),
             nearest::row(1, Scene::of(64, (5, 5))),
             seated::quality(1, Scene::of(64, (5, 5))),
+            seated::quality(1, Scene::of(64, (5, 5)).apart()),
             seated::score(1, Scene::of(64, (5, 5)).unsorted()),
+            seated::score(1, Scene::of(64, (5, 5)).apart()),
             by_value::round(1),
             dispatch::row(1),
         ];

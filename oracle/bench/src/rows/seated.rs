@@ -135,3 +135,21 @@ fn same(rust: f64, library: Scored) -> String {
     assert!(rust.same(&library.value), "not the Rust's value");
     "1 match".into()
 }
+
+#[cfg(test)]
+mod tests {
+    use super::*;
+
+    /// Of the matches in a row, how many are 400 points and more apart.
+    fn far(scene: Scene) -> usize {
+        let matches = drawn(1, scene).into_iter().map(Quality);
+        matches.filter(|quality| quality.rust() == 0.0).count()
+    }
+
+    #[test]
+    fn most_teams_of_a_crowd_far_apart_are_400_points_apart() {
+        let scene = Scene::of(64, (5, 5));
+        assert!(far(scene) < CASES / 4);
+        assert!(far(scene.apart()) > CASES * 3 / 4);
+    }
+}
