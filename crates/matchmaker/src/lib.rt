@@ -67,8 +67,8 @@ pub fn average(sum: f64, len: usize) -> f64
     sum / std::num::nearest_u64_to_f64(seats)
 }
 
-// The quality of two averages. Most that a search tries are 400 points apart or more: they are not divided, nor is a NaN, which fails a test. The tests
-// come before `abs`: behind it the compiler would divide first and test then.
+// The quality of two averages. Those 400 points apart or more are not divided, nor is a NaN, which fails a test. The tests come before `abs`: behind it
+// the compiler would divide first and test then.
 pub fn quality_between(x: f64, y: f64) -> f64
     ensures { λ r. ⌜ r ≡ qualityBetween x y ⌝ }
 {
