@@ -1,5 +1,7 @@
 // What every crate shares: the refusals of documents 01 and 02; `abs`, `min`, the test for NaN and the bits of floats; a number with a limit, and whether one
 // is among others.
+#![tactic(auto)]
+
 ghost use Rattle.std.specs.Prelude.{◌≡◌};
 ghost use Prim.Native.Nat as Nat;
 ghost use Rattle.std.specs.Float.{binary64};
@@ -9,7 +11,7 @@ ghost use Rattle.base.specs.Floats.{abs_of, min_of};
 ghost use Rattle.base.specs.Lists.{member};
 
 // Document 01's twelve refusals, in the order of its table, and those that document 02 added.
-#[derive(Drop)]
+#[derive(Clone, Copy)]
 pub enum Refusal {
     OverLimit,
     BadRoster,
@@ -27,7 +29,7 @@ pub enum Refusal {
 }
 
 // What a check answers.
-#[derive(Drop)]
+#[derive(Clone, Copy)]
 pub enum Checked {
     Passed,
     Refused(Refusal),

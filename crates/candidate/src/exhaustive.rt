@@ -13,7 +13,7 @@ use queue::Queue;
 use seating::{Formed, TeamComposition};
 
 // Where the next match goes: its players from `at` on, its quality at `done`.
-#[derive(Drop)]
+#[derive(Clone, Copy)]
 pub struct Marks {
     pub at: usize,
     pub done: usize,
@@ -109,7 +109,7 @@ fn combinations(
 }
 
 // The generator has nothing to set.
-#[derive(Drop)]
+#[derive(Clone, Copy)]
 pub struct ExhaustiveGenerator {}
 
 impl ExhaustiveGenerator {

@@ -19,7 +19,7 @@ use seating::{Formed, TeamComposition};
 
 // At most how many matches it gives.
 #[repr(C)]
-#[derive(Drop)]
+#[derive(Clone, Copy)]
 pub struct GreedyNearestGenerator {
     pub max: usize,
 }

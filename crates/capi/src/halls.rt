@@ -16,7 +16,7 @@ use seating::TeamComposition;
 
 // Refusal 0: accepted.
 #[repr(C)]
-#[derive(Drop)]
+#[derive(Clone, Copy)]
 pub struct Keyed {
     pub hall: Hall,
     pub refusal: u8,
@@ -25,7 +25,7 @@ pub struct Keyed {
 // What the match of a round must meet: the constraints that are brought, and, where waiting friends are, that with each guest everyone is
 // seated who waits with the party of an entry of that guest. Party 0 is none.
 #[repr(C)]
-#[derive(Drop)]
+#[derive(Clone, Copy)]
 pub struct RoundRules {
     pub constraints: Constraints,
     pub waiting_friends: bool,
@@ -33,7 +33,7 @@ pub struct RoundRules {
 
 // The sizes of the eight games, 0 and 0 of one that is not used.
 #[repr(C)]
-#[derive(Drop)]
+#[derive(Clone, Copy)]
 pub struct Games {
     pub sizes: [TeamComposition; 8],
 }
@@ -41,7 +41,7 @@ pub struct Games {
 // How many matches were handed out and how many choices were tried, 0 and 0 where it is refused; and the game that a dispatch served, 255
 // where it served none, was refused, or is another round.
 #[repr(C)]
-#[derive(Drop)]
+#[derive(Clone, Copy)]
 pub struct Rounded {
     pub hall: Hall,
     pub count: usize,

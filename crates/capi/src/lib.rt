@@ -1,6 +1,7 @@
 // The library that C and Rust programs link: numbers, slices and #[repr(C)] structs by value. Every export promises what the crates
 // below it promise, in numbers: a refusal is document 01's number, 0 where there is none. The exports are thin; the hall's calls stand
 // here whole, since each function that a hall goes through copies it.
+#![tactic(auto)]
 
 // The queue and times.
 pub mod queues;

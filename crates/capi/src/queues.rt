@@ -10,7 +10,7 @@ use base::Checked;
 use queue::{Queue, QueueEntry, Taken};
 
 #[repr(C)]
-#[derive(Drop)]
+#[derive(Clone, Copy)]
 pub struct Enqueued {
     pub queue: Queue,
     pub refusal: u8,
@@ -18,7 +18,7 @@ pub struct Enqueued {
 
 // The entry is blank where none was found.
 #[repr(C)]
-#[derive(Drop)]
+#[derive(Clone, Copy)]
 pub struct Removed {
     pub queue: Queue,
     pub entry: QueueEntry,
@@ -27,7 +27,7 @@ pub struct Removed {
 }
 
 #[repr(C)]
-#[derive(Drop)]
+#[derive(Clone, Copy)]
 pub struct Batch {
     pub kept: Queue,
     pub removed: Queue,
@@ -35,7 +35,7 @@ pub struct Batch {
 }
 
 #[repr(C)]
-#[derive(Drop)]
+#[derive(Clone, Copy)]
 pub struct Wait {
     pub nanos: u64,
     pub found: bool,
@@ -43,14 +43,14 @@ pub struct Wait {
 }
 
 #[repr(C)]
-#[derive(Drop)]
+#[derive(Clone, Copy)]
 pub struct Duration {
     pub nanos: u64,
     pub refusal: u8,
 }
 
 #[repr(C)]
-#[derive(Drop)]
+#[derive(Clone, Copy)]
 pub struct Seconds {
     pub seconds: f64,
     pub refusal: u8,

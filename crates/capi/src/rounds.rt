@@ -17,7 +17,7 @@ use seating::TeamComposition;
 // The teams are the match where one was found, else nobody; what stands in a team's array behind its players counts for nothing.
 // Nothing is tried where it is refused.
 #[repr(C)]
-#[derive(Drop)]
+#[derive(Clone, Copy)]
 pub struct Chosen {
     pub teams: ProposedMatch,
     pub tried: u64,

@@ -16,7 +16,7 @@ use matchmaker::{ProposedMatch, Team};
 
 // How many of a role there must be, and, where it is bounded, may be.
 #[repr(C)]
-#[derive(Drop)]
+#[derive(Clone, Copy)]
 pub struct RoleRequirement {
     pub role: u32,
     pub least: usize,
@@ -26,7 +26,7 @@ pub struct RoleRequirement {
 
 // The first `len` requirements.
 #[repr(C)]
-#[derive(Drop)]
+#[derive(Clone, Copy)]
 pub struct RoleRequirements {
     pub items: [RoleRequirement; 8],
     pub len: usize,
@@ -34,7 +34,7 @@ pub struct RoleRequirements {
 
 // What is not brought is not read.
 #[repr(C)]
-#[derive(Drop)]
+#[derive(Clone, Copy)]
 pub struct Constraints {
     pub brought: Brought,
     pub sizes: TeamSizeConstraint,
@@ -43,7 +43,7 @@ pub struct Constraints {
 }
 
 #[repr(C)]
-#[derive(Drop)]
+#[derive(Clone, Copy)]
 pub struct Verdict {
     pub satisfied: bool,
     pub refusal: u8,
@@ -51,7 +51,7 @@ pub struct Verdict {
 
 // Fault 0 is none, 1 the size, 2 too few and 3 too many of the requirement at the place.
 #[repr(C)]
-#[derive(Drop)]
+#[derive(Clone, Copy)]
 pub struct Validity {
     pub place: usize,
     pub fault: u8,

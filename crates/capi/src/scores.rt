@@ -16,7 +16,7 @@ use queue::Queue;
 
 // The value is 0.0 where it is refused.
 #[repr(C)]
-#[derive(Drop)]
+#[derive(Clone, Copy)]
 pub struct Scored {
     pub value: f64,
     pub refusal: u8,
@@ -24,7 +24,7 @@ pub struct Scored {
 
 // The first `len` soft objectives. Kind 0 is skill, 1 latency, 2 wait.
 #[repr(C)]
-#[derive(Drop)]
+#[derive(Clone, Copy)]
 pub struct SoftObjectives {
     pub kinds: [u8; 8],
     pub weights: [f64; 8],

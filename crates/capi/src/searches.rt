@@ -20,7 +20,7 @@ use seating::TeamComposition;
 
 // How many matches were handed out, 0 where it is refused.
 #[repr(C)]
-#[derive(Drop)]
+#[derive(Clone, Copy)]
 pub struct Formed {
     pub count: usize,
     pub refusal: u8,

@@ -11,7 +11,7 @@ use objective::pareto::ObjectiveWeights;
 
 // The first `len` candidates.
 #[repr(C)]
-#[derive(Drop)]
+#[derive(Clone, Copy)]
 pub struct Candidates {
     pub items: [ProposedMatch; 64],
     pub len: usize,
@@ -19,7 +19,7 @@ pub struct Candidates {
 
 // The first `len` places; what stands behind them is free.
 #[repr(C)]
-#[derive(Drop)]
+#[derive(Clone, Copy)]
 pub struct Selected {
     pub places: [usize; 64],
     pub len: usize,

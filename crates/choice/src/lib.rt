@@ -1,4 +1,5 @@
 // The best choice of a full round: every choice of the queue is tried, and the best of those that pass is kept.
+#![tactic(auto)]
 ghost use Rattle.std.specs.Prelude.{◌≡◌, cond, ◌&&◌, ltb, ℕ, ◌+◌, ◌*◌, ◌≤◌, ◌<◌, ◌^◌, [], map, length, take, get_or};
 ghost use Rattle.std.specs.Float.Ieee.{lt};
 ghost use Rattle.base.specs.Refusals.{refused, gives, refusal_number, checked_of};
@@ -28,7 +29,7 @@ mod tally;
 
 // The best so far: the last of those that score highest, where one passed; how many were tried; did two or more pass, and did one
 // of them score NaN?
-#[derive(Drop)]
+#[derive(Clone, Copy)]
 pub struct Best {
     pub teams: ProposedMatch,
     pub score: f64,
@@ -39,7 +40,7 @@ pub struct Best {
 }
 
 // What comes of it: a refusal, nothing that passes, or a match.
-#[derive(Drop)]
+#[derive(Clone, Copy)]
 pub enum Decision {
     Refused(Refusal),
     Nothing,
@@ -47,7 +48,7 @@ pub enum Decision {
 }
 
 // What the players of a choice are rated together: those of A, those of B, and all, A then B. A player without a row adds nothing.
-#[derive(Drop)]
+#[derive(Clone, Copy)]
 pub struct Sums {
     pub a: f64,
     pub b: f64,
@@ -56,7 +57,7 @@ pub struct Sums {
 
 // The match where one is chosen, else nobody, and how many choices were tried, 0 where it is refused. What stands in a team's array
 // behind its players counts for nothing.
-#[derive(Drop)]
+#[derive(Clone, Copy)]
 pub struct Choice {
     pub decision: Decision,
     pub teams: ProposedMatch,

@@ -8,7 +8,7 @@ use seating::TeamComposition;
 
 // Is everyone fine so far; how many count for each role requirement, eight bits each; and the places of those who are seated, of those who
 // must be, and of those who may not join B.
-#[derive(Drop)]
+#[derive(Clone, Copy)]
 pub struct Tally {
     pub fine: bool,
     pub counts: u64,
@@ -18,7 +18,7 @@ pub struct Tally {
 }
 
 // How many role requirements there are, and their limits, eight bits each.
-#[derive(Drop)]
+#[derive(Clone, Copy)]
 pub struct Bounds {
     pub asked: usize,
     pub least: u64,

@@ -1,5 +1,6 @@
 // The hard constraints of a match (constraint.rs). Each kind judges a match by the columns that it reads; `Constraints` brings any
 // of the five together.
+#![tactic(auto)]
 ghost use Rattle.std.specs.Prelude.{◌≡◌, not, ◌&&◌, ◌||◌};
 ghost use Rattle.base.specs.Refusals.{checked_of};
 ghost use Rattle.roster.specs.Roster.{of_ratings, of_parties, of_roles, of_regions, of_rules};
@@ -24,7 +25,7 @@ pub mod verdicts;
 
 // Which kinds of constraint a call brings.
 #[repr(C)]
-#[derive(Drop)]
+#[derive(Clone, Copy)]
 pub struct Brought {
     pub sizes: bool,
     pub roles: bool,
@@ -34,7 +35,7 @@ pub struct Brought {
 }
 
 // At most one of each kind; what is not brought is neither read nor checked.
-#[derive(Drop)]
+#[derive(Clone, Copy)]
 pub struct Constraints {
     pub brought: Brought,
     pub sizes: TeamSizeConstraint,

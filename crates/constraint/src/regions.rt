@@ -13,7 +13,7 @@ use matchmaker::{ProposedMatch, Team};
 
 // Two regions that may meet.
 #[repr(C)]
-#[derive(Drop)]
+#[derive(Clone, Copy)]
 pub struct RegionPair {
     pub first: u8,
     pub second: u8,
@@ -21,7 +21,7 @@ pub struct RegionPair {
 
 // Only the first `count` pairs may meet, either way round.
 #[repr(C)]
-#[derive(Drop)]
+#[derive(Clone, Copy)]
 pub struct RegionConstraint {
     pub pairs: [RegionPair; 16],
     pub count: usize,

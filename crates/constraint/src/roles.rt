@@ -10,14 +10,14 @@ use base::{Checked, Refusal};
 use matchmaker::{ProposedMatch, Team};
 
 // How many of a role there may be.
-#[derive(Drop)]
+#[derive(Clone, Copy)]
 pub enum Maximum {
     Unbounded,
     AtMost(usize),
 }
 
 // How many of a role there must and may be. Role 0 is nobody's.
-#[derive(Drop)]
+#[derive(Clone, Copy)]
 pub struct RoleRequirement {
     pub role: u32,
     pub least: usize,
@@ -25,7 +25,7 @@ pub struct RoleRequirement {
 }
 
 // The first `count` requirements hold of both teams together.
-#[derive(Drop)]
+#[derive(Clone, Copy)]
 pub struct RoleConstraint {
     pub requirements: [RoleRequirement; 8],
     pub count: usize,

@@ -9,7 +9,7 @@ use base::Refusal;
 use matchmaker::ProposedMatch;
 
 #[repr(C)]
-#[derive(Drop)]
+#[derive(Clone, Copy)]
 pub struct TeamSizeConstraint {
     pub a: usize,
     pub b: usize,

@@ -10,14 +10,14 @@ use crate::roles::RoleConstraint;
 use base::{Checked, Refusal};
 use matchmaker::Team;
 
-#[derive(Drop)]
+#[derive(Clone, Copy)]
 pub struct TeamConstraint {
     pub size: usize,
     pub roles: RoleConstraint,
 }
 
 // The first fault of a team; a role's fault with the place of its requirement.
-#[derive(Drop)]
+#[derive(Clone, Copy)]
 pub enum Validity {
     Refused(Refusal),
     Valid,

@@ -5,7 +5,7 @@ ghost use Rattle.constraint.specs.Refusing.{verdict_of};
 
 use base::Refusal;
 
-#[derive(Drop)]
+#[derive(Clone, Copy)]
 pub enum Verdict {
     Refused(Refusal),
     Satisfied,

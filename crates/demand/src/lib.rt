@@ -1,1 +1,2 @@
 // No code: what is promised of lists of calls, and its proof.
+#![tactic(auto)]

@@ -99,7 +99,7 @@ fn guest(noted: u64, given: u64) {
 
 // ---- what the key stands for
 
-#[derive(Drop)]
+#[derive(Clone, Copy)]
 enum Noted {
     Nothing,
     As(Note),

@@ -8,7 +8,7 @@ use hall::Hall;
 use queue::Queue;
 use seating::TeamComposition;
 
-#[derive(Drop)]
+#[derive(Clone, Copy)]
 pub struct Desk {
     pub hall: Hall,
     // Has the hall been opened, with the sizes of its games?

@@ -14,7 +14,7 @@ const ROW: u32 = fields::RATING | fields::PARTY | fields::ROLE;
 
 pub const ALLOWED: u32 = NEEDED | ROW;
 
-#[derive(Drop)]
+#[derive(Clone, Copy)]
 pub enum Entered {
     // A complaint was made.
     Nothing,

@@ -40,7 +40,7 @@ pub const AT_MOST: u32 = 32768;
 pub const GAME: u32 = 65536;
 
 // What a line gives, a value at each field's place, and 0 where it gives none.
-#[derive(Drop)]
+#[derive(Clone, Copy)]
 pub struct Fields {
     // Behind the last field that was read.
     pub at: usize,

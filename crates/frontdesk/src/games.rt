@@ -9,7 +9,7 @@ use hall::Booking;
 use seating::TeamComposition;
 
 // The sizes that a line gives so far.
-#[derive(Drop)]
+#[derive(Clone, Copy)]
 struct Opening {
     sizes: [TeamComposition; 8],
     // How many games.

@@ -3,7 +3,7 @@ use crate::counts;
 use roster::Observed;
 
 // The first `rows` of each column.
-#[derive(Drop)]
+#[derive(Clone, Copy)]
 pub struct Roster {
     pub ids: [u64; 128],
     pub ratings: [f64; 128],
@@ -15,7 +15,7 @@ pub struct Roster {
 }
 
 // One guest's row.
-#[derive(Drop)]
+#[derive(Clone, Copy)]
 pub struct Row {
     pub guest: u64,
     pub rating: f64,

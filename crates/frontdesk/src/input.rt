@@ -3,7 +3,7 @@ use crate::desk::Desk;
 use crate::{commands, complaints, counts, print};
 
 // The line so far, of which 256 bytes are kept.
-#[derive(Drop)]
+#[derive(Clone, Copy)]
 pub struct Line {
     pub bytes: [u8; 256],
     pub len: usize,
@@ -11,7 +11,7 @@ pub struct Line {
     pub number: u64,
 }
 
-#[derive(Drop)]
+#[derive(Clone, Copy)]
 pub struct Session {
     pub desk: Desk,
     pub line: Line,

@@ -8,7 +8,7 @@ use queue::{Queue, QueueEntry};
 
 // ---- who waits
 
-#[derive(Drop)]
+#[derive(Clone, Copy)]
 enum Clock {
     // A complaint was made, or the clock was refused.
     Nothing,

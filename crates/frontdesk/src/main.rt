@@ -1,5 +1,6 @@
 // The program that counter staff run: one command a line, from standard input or from the file that its argument names, and one
 // hall for the evening.
+#![tactic(auto)]
 
 // Lines as they arrive.
 mod input;

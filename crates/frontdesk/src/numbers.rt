@@ -2,7 +2,7 @@
 use crate::words;
 
 // What the digits of a word say.
-#[derive(Drop)]
+#[derive(Clone, Copy)]
 pub struct Digits {
     // All digits, as if there were no point.
     pub value: u64,
@@ -18,7 +18,7 @@ pub struct Digits {
 }
 
 // Why a word is no value, if it is none.
-#[derive(Drop)]
+#[derive(Clone, Copy)]
 pub enum Problem {
     Nothing,
     Malformed,
@@ -26,13 +26,13 @@ pub enum Problem {
     Long,
 }
 
-#[derive(Drop)]
+#[derive(Clone, Copy)]
 pub struct ReadWhole {
     pub value: u64,
     pub problem: Problem,
 }
 
-#[derive(Drop)]
+#[derive(Clone, Copy)]
 pub struct ReadDecimal {
     pub value: f64,
     pub problem: Problem,

@@ -97,14 +97,14 @@ fn clear(desk: Desk, text: &[u8], heard: Heard) -> Desk {
 
 // ---- the searches
 
-#[derive(Drop)]
+#[derive(Clone, Copy)]
 enum Search {
     Greedy,
     Beam,
 }
 
 // The sizes that a search is asked for, and all else. An exported queue is of no game.
-#[derive(Drop)]
+#[derive(Clone, Copy)]
 struct Sought {
     sizes: TeamComposition,
     asked: Asked,

@@ -56,7 +56,7 @@ pub fn sizes(a: usize, b: usize) {
 }
 
 // A float as it is printed: its sign, its whole part and its digits behind the point.
-#[derive(Drop)]
+#[derive(Clone, Copy)]
 struct Printed {
     minus: bool,
     whole: u64,

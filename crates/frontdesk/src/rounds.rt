@@ -23,7 +23,7 @@ pub const BEAM: u32 = TIMED
     | fields::UNCERTAINTY;
 
 // Which round a line asks for.
-#[derive(Drop)]
+#[derive(Clone, Copy)]
 pub enum Round {
     Greedy,
     Beam,
@@ -42,7 +42,7 @@ fn allowed(round: Round) -> u32 {
 }
 
 // What a round or a search is asked for; the game is a round's, width and objective are a beam's.
-#[derive(Drop)]
+#[derive(Clone, Copy)]
 pub struct Asked {
     pub game: u8,
     pub clock: u64,

@@ -7,7 +7,7 @@ use roster::Observed;
 use seating::TeamComposition;
 
 // What the blocks are made from: the queue as it was before the round, the roster and the clock.
-#[derive(Drop)]
+#[derive(Clone, Copy)]
 pub struct Before {
     pub waiting: Queue,
     pub roster: Roster,

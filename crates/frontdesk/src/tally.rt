@@ -1,5 +1,5 @@
 // What came of the bookings, game by game. The key book tells no game of a withdrawal and nothing of seats, so the desk counts for itself.
-#[derive(Drop)]
+#[derive(Clone, Copy)]
 pub struct Tally {
     pub accepted: [u64; 8],
     pub withdrawn: [u64; 8],

@@ -3,7 +3,7 @@ use crate::numbers;
 use crate::numbers::Problem;
 use check::same;
 
-#[derive(Drop)]
+#[derive(Clone, Copy)]
 pub enum Kind {
     // A whole number up to this limit.
     Whole(u64),
@@ -13,7 +13,7 @@ pub enum Kind {
 }
 
 // A whole number, a time or a region's code in `whole`, a decimal number in `real`.
-#[derive(Drop)]
+#[derive(Clone, Copy)]
 pub struct Value {
     pub whole: u64,
     pub real: f64,
@@ -84,7 +84,7 @@ pub fn read(kind: Kind, word: &[u8]) -> Value {
 }
 
 // Two team sizes, as 5+5.
-#[derive(Drop)]
+#[derive(Clone, Copy)]
 pub struct ReadSizes {
     pub a: u64,
     pub b: u64,

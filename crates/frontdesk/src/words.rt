@@ -2,7 +2,7 @@
 ghost use Rattle.std.specs.Prelude.{◌≤◌, length};
 
 // The bytes of the line from `from` to before `to`. An empty word is the line's end.
-#[derive(Drop)]
+#[derive(Clone, Copy)]
 pub struct Word {
     pub from: usize,
     pub to: usize,
@@ -54,7 +54,7 @@ fn is_comment(text: &[u8], at: usize) -> bool {
 }
 
 // The line's number, and its first word: the command.
-#[derive(Drop)]
+#[derive(Clone, Copy)]
 pub struct Heard {
     pub number: u64,
     pub command: Word,

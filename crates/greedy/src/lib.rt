@@ -1,4 +1,5 @@
 // GreedySearch of search.rs: an anchor opens a match, and every seat goes to the nearest player who is left.
+#![tactic(auto)]
 ghost use Rattle.std.specs.Prelude.{◌≡◌, List, map, ◌+◌, ◌-◌, ◌≤◌, ◌<◌, min, length, take, get_or};
 ghost use Rattle.std.specs.Float.{nan};
 ghost use Rattle.base.specs.Lists.{All, places_from};
@@ -18,14 +19,14 @@ use queue::Queue;
 use seating::{Formed, TeamComposition};
 
 // The nearest so far: its place and its distance.
-#[derive(Drop)]
+#[derive(Clone, Copy)]
 pub struct Nearest {
     pub place: usize,
     pub distance: f64,
 }
 
 // The teams of an anchor while they fill, with A's running sum and the reference rating.
-#[derive(Drop)]
+#[derive(Clone, Copy)]
 pub struct Filling {
     pub teams: ProposedMatch,
     pub sum: f64,
@@ -33,7 +34,7 @@ pub struct Filling {
 }
 
 // How far the sheets are written: so many seats, of so many matches.
-#[derive(Drop)]
+#[derive(Clone, Copy)]
 pub struct Written {
     pub seats: usize,
     pub count: usize,
@@ -441,7 +442,7 @@ fn matches(
 }
 
 // The search itself has nothing to set.
-#[derive(Drop)]
+#[derive(Clone, Copy)]
 pub struct GreedySearch {}
 
 impl GreedySearch {

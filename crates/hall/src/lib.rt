@@ -1,6 +1,7 @@
 // The hall: who waits, for which of eight games, and the book of keys by which a resent call gets the answer that it got. What its calls
 // are made of stands here, in functions of numbers and of bookings; the calls themselves, which take a hall and hand out the hall as they leave it, are the
 // exported ones: each function that a hall goes through copies it once more.
+#![tactic(auto)]
 ghost use Rattle.std.specs.Prelude.{◌≡◌, ltb};
 ghost use Rattle.base.specs.Numbers.{outcome_in};
 ghost use Rattle.hall.specs.Games.{is_no_game};
@@ -24,7 +25,7 @@ pub mod rounds;
 // What a call brings beside its key, and what waits. The rating comes as its bits, since a key stands for these: two zeros differ, and two
 // NaNs. Party 0 and role 0 mean none.
 #[repr(C)]
-#[derive(Drop)]
+#[derive(Clone, Copy)]
 pub struct Booking {
     pub player: u64,
     pub joined: u64,
@@ -37,7 +38,7 @@ pub struct Booking {
 // What is noted beside a key. Kind 0 is a booking, with all its fields; 1 a withdrawal; 2 a booking noted when only its guest was: of the
 // last two just the guest counts, and no call makes a note of kind 2. Answer 0 is accepted, n is refusal n.
 #[repr(C)]
-#[derive(Drop)]
+#[derive(Clone, Copy)]
 pub struct Note {
     pub player: u64,
     pub joined: u64,
@@ -53,7 +54,7 @@ pub struct Note {
 // note at its place. The places behind mean nothing. Each game has its sizes, 0 and 0 where it is not used; `served` is the last game that
 // a dispatch served, 255 where none was.
 #[repr(C)]
-#[derive(Drop)]
+#[derive(Clone, Copy)]
 pub struct Hall {
     pub bookings: [Booking; 64],
     pub waiting: usize,

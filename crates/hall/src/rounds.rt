@@ -20,7 +20,7 @@ use seating::{Formed, TeamComposition};
 
 // What a round gives besides the hall: its matches, the places that they take on the players' sheet, and the choices that it tried.
 // All are 0 where it is refused.
-#[derive(Drop)]
+#[derive(Clone, Copy)]
 pub struct Handed {
     pub count: usize,
     pub seats: usize,

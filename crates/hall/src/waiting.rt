@@ -10,7 +10,7 @@ use crate::Booking;
 use queue::{Queue, QueueEntry};
 
 // Those who stay when others leave: the first `waiting` bookings. The places behind mean nothing.
-#[derive(Drop)]
+#[derive(Clone, Copy)]
 pub struct Staying {
     pub bookings: [Booking; 64],
     pub waiting: usize,

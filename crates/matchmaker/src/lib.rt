@@ -1,4 +1,5 @@
 // Teams, proposed matches and match quality (matchmaker.rs).
+#![tactic(auto)]
 ghost use Rattle.std.specs.Prelude.{◌≡◌, ◌+◌, ◌≤◌, ◌++◌, length, take, drop, replicate};
 ghost use mathlib.Core.List.{foldl};
 ghost use Rattle.std.specs.Float.Ieee as Ieee;
@@ -14,26 +15,26 @@ use roster::Observed;
 
 // The first `len` players, in order. What stands behind them is free.
 #[repr(C)]
-#[derive(Drop)]
+#[derive(Clone, Copy)]
 pub struct Team {
     pub players: [u64; 8],
     pub len: usize,
 }
 
 #[repr(C)]
-#[derive(Drop)]
+#[derive(Clone, Copy)]
 pub struct ProposedMatch {
     pub a: Team,
     pub b: Team,
 }
 
 // Everyone seated in one array, team A then B. What stands behind them is what team B's array has behind its length, and then team A's.
-#[derive(Drop)]
+#[derive(Clone, Copy)]
 pub struct Seated {
     pub players: [u64; 16],
 }
 
-#[derive(Drop)]
+#[derive(Clone, Copy)]
 pub enum Quality {
     Refused(Refusal),
     Of(f64),

@@ -4,7 +4,7 @@ ghost use Rattle.objective.specs.Pareto.{scalarized, any_below, dominates_of, ze
 
 // Of all but the wait, more is better.
 #[repr(C)]
-#[derive(Drop)]
+#[derive(Clone, Copy)]
 pub struct MatchObjectiveVector {
     pub skill: f64,
     pub role: f64,
@@ -15,7 +15,7 @@ pub struct MatchObjectiveVector {
 }
 
 #[repr(C)]
-#[derive(Drop)]
+#[derive(Clone, Copy)]
 pub struct ObjectiveWeights {
     pub skill: f64,
     pub role: f64,

@@ -16,7 +16,7 @@ use queue::Queue;
 
 // The four weights.
 #[repr(C)]
-#[derive(Drop)]
+#[derive(Clone, Copy)]
 pub struct MatchObjective {
     pub quality: f64,
     pub wait: f64,
@@ -24,7 +24,7 @@ pub struct MatchObjective {
     pub uncertainty: f64,
 }
 
-#[derive(Drop)]
+#[derive(Clone, Copy)]
 pub enum Score {
     Refused(Refusal),
     Of(f64),

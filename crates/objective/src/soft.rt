@@ -10,7 +10,7 @@ use base::{Checked, Refusal};
 use matchmaker::ProposedMatch;
 
 // One of three kinds, each with its weight.
-#[derive(Drop)]
+#[derive(Clone, Copy)]
 pub enum SoftObjective {
     Skill(f64),
     Latency(f64),

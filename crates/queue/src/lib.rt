@@ -1,4 +1,6 @@
 // The waiting queue (queue.rs), by value: a queue goes in and the changed one comes out.
+#![tactic(auto)]
+
 ghost use Rattle.std.specs.Prelude.{◌≡◌, ◌+◌, ◌<◌, ◌≤◌, [], ◌++◌, map, take, drop};
 ghost use Rattle.base.specs.Refusals.{checked_of};
 ghost use Rattle.base.specs.Lists.{any, place};
@@ -12,7 +14,7 @@ pub mod time;
 
 // One booking in the queue. Party 0 and role 0 mean none.
 #[repr(C)]
-#[derive(Drop)]
+#[derive(Clone, Copy)]
 pub struct QueueEntry {
     pub player: u64,
     pub joined: u64,
@@ -23,35 +25,35 @@ pub struct QueueEntry {
 
 // The first `len` entries wait, in this order. What stands behind them is free.
 #[repr(C)]
-#[derive(Drop)]
+#[derive(Clone, Copy)]
 pub struct Queue {
     pub entries: [QueueEntry; 64],
     pub len: usize,
 }
 
 // The queue with the entry, or the refusal and the queue as it was: the length that it stated and what that holds.
-#[derive(Drop)]
+#[derive(Clone, Copy)]
 pub struct Enqueued {
     pub queue: Queue,
     pub answer: Checked,
 }
 
 // The entry that a removal took.
-#[derive(Drop)]
+#[derive(Clone, Copy)]
 pub enum Taken {
     Refused(Refusal),
     Nobody,
     Entry(QueueEntry),
 }
 
-#[derive(Drop)]
+#[derive(Clone, Copy)]
 pub struct Removed {
     pub queue: Queue,
     pub taken: Taken,
 }
 
 // Who stays and who leaves.
-#[derive(Drop)]
+#[derive(Clone, Copy)]
 pub struct Batch {
     pub kept: Queue,
     pub removed: Queue,
@@ -59,27 +61,27 @@ pub struct Batch {
 }
 
 // The wait of a player's first entry.
-#[derive(Drop)]
+#[derive(Clone, Copy)]
 pub enum Waited {
     Nobody,
     Of(u64),
 }
 
 // The player at each place.
-#[derive(Drop)]
+#[derive(Clone, Copy)]
 pub struct Players {
     pub ids: [u64; 64],
 }
 
 // The player and the joined time at each place.
-#[derive(Drop)]
+#[derive(Clone, Copy)]
 pub struct Columns {
     pub players: [u64; 64],
     pub joined: [u64; 64],
 }
 
 // How long a player has waited.
-#[derive(Drop)]
+#[derive(Clone, Copy)]
 pub enum Wait {
     Refused(Refusal),
     Nobody,

@@ -5,13 +5,13 @@ ghost use Rattle.queue.specs.Time.{time_over, since, seconds_of, duration_of, du
 
 use base::Refusal;
 
-#[derive(Drop)]
+#[derive(Clone, Copy)]
 pub enum Duration {
     Refused(Refusal),
     Of(u64),
 }
 
-#[derive(Drop)]
+#[derive(Clone, Copy)]
 pub enum Seconds {
     Refused(Refusal),
     Of(f64),

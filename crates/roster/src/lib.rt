@@ -1,4 +1,6 @@
 // The roster, which stands for the Rust's World: columns that the caller lends.
+#![tactic(auto)]
+
 ghost use Rattle.std.specs.Prelude.{◌≡◌, true, [], map, ◌≤◌, ◌+◌, ◌*◌, eqb, length, take, drop};
 ghost use Rattle.base.specs.Refusals.{checked_of};
 ghost use Rattle.std.proofs.Math.Option.{get_or};
@@ -19,7 +21,7 @@ mod table;
 pub mod places;
 
 // What a column of floats says of a player.
-#[derive(Drop)]
+#[derive(Clone, Copy)]
 pub enum Observed {
     Of(f64),
     Nothing,

@@ -1,4 +1,5 @@
 // Matches gathered by value, and the sheets that they are written to.
+#![tactic(auto)]
 ghost use Rattle.std.specs.Prelude.{◌≡◌, [], map, length, take};
 ghost use Rattle.roster.specs.Roster.{of_ratings};
 ghost use Rattle.matchmaker.specs.Quality.{team_of, match_of, seated, quality_of};
@@ -16,21 +17,21 @@ pub mod searching;
 
 // The sizes of the two teams.
 #[repr(C)]
-#[derive(Drop)]
+#[derive(Clone, Copy)]
 pub struct TeamComposition {
     pub a: usize,
     pub b: usize,
 }
 
 // The first `len` matches, in order. What stands behind them is free.
-#[derive(Drop)]
+#[derive(Clone, Copy)]
 pub struct Matches {
     pub items: [ProposedMatch; 64],
     pub len: usize,
 }
 
 // How many matches were handed out, or why none.
-#[derive(Drop)]
+#[derive(Clone, Copy)]
 pub enum Formed {
     Refused(Refusal),
     Count(usize),

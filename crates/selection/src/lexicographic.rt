@@ -15,14 +15,14 @@ use matchmaker::ProposedMatch;
 use objective::soft::SoftObjective;
 
 // A candidate that is still kept, with its place in the given list.
-#[derive(Drop)]
+#[derive(Clone, Copy)]
 pub struct Candidate {
     pub place: usize,
     pub proposed: ProposedMatch,
 }
 
 // The first `len` are still kept.
-#[derive(Drop)]
+#[derive(Clone, Copy)]
 pub struct Shortlist {
     pub candidates: [Candidate; 64],
     pub len: usize,

@@ -1,4 +1,5 @@
 // Choosing among candidate matches (selection.rs). Each selection answers with the places of the chosen in the given list.
+#![tactic(auto)]
 ghost use Rattle.std.specs.Prelude.{◌≡◌, cond, [], ◌∷◌, map, ◌≤◌, take};
 ghost use Rattle.base.specs.Refusals.{refused, gives, refusal_number, checked_of};
 ghost use Rattle.base.specs.Lists.{any};
@@ -24,7 +25,7 @@ pub mod lexicographic;
 pub mod weighted;
 
 // The first `count` places, or the refusal and none. What stands behind them is free.
-#[derive(Drop)]
+#[derive(Clone, Copy)]
 pub struct Selected {
     pub places: [usize; 64],
     pub count: usize,

@@ -31,7 +31,7 @@ pub const SHORT_SHEETS: u8 = 2;
 pub const NO_WEIGHT: u8 = 3;
 
 // One of the six kinds. `time` is a booking's joined time and a round's clock. A dispatch names no game.
-#[derive(Drop)]
+#[derive(Clone, Copy)]
 pub struct Call {
     pub kind: u8,
     pub key: u64,
@@ -46,7 +46,7 @@ pub struct Call {
 }
 
 // What a call gives besides the hall and its sheets. Refusal 0 is none. Only a dispatch serves a game, and 255 is none.
-#[derive(Drop)]
+#[derive(Clone, Copy)]
 pub struct Answer {
     pub refusal: u8,
     pub matches: usize,
@@ -54,7 +54,7 @@ pub struct Answer {
     pub served: u8,
 }
 
-#[derive(Drop)]
+#[derive(Clone, Copy)]
 pub struct Made {
     pub hall: Hall,
     pub answer: Answer,

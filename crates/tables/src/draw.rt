@@ -5,7 +5,7 @@ use capi::halls::Games;
 use seating::TeamComposition;
 
 // How long a list is, among how many guests and keys, how many calls there are to a round, and how many games are drawn.
-#[derive(Drop)]
+#[derive(Clone, Copy)]
 pub struct Plan {
     pub calls: usize,
     pub guests: u64,

@@ -10,7 +10,7 @@ use tally::Tally;
 use turns::Turns;
 
 // The two halls, and what the list comes to so far. A told list is written call by call.
-#[derive(Drop)]
+#[derive(Clone, Copy)]
 pub struct Run {
     pub whole: Hall,
     pub thinned: Hall,
@@ -38,7 +38,7 @@ fn start(told: bool, games: Games, tally: Tally) -> Run {
 }
 
 // A run, and the answer of the call that it came to.
-#[derive(Drop)]
+#[derive(Clone, Copy)]
 struct Stepped {
     run: Run,
     answer: Answer,

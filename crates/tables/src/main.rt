@@ -1,5 +1,6 @@
 // The lines of document 01's table, of 2.3, of 2.4 and of 2.5, a list of calls that is told call by call, and drawn lists of calls: the program
 // says what the proved functions answer to them, and how many checks of the answers fail.
+#![tactic(auto)]
 
 // What is written.
 mod text;

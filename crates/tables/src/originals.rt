@@ -4,7 +4,7 @@ use calls::Call;
 use hall::Booking;
 
 // An original: its key, its kind and what it brings, and the answer that it got.
-#[derive(Drop)]
+#[derive(Clone, Copy)]
 pub struct Original {
     pub key: u64,
     pub booking: Booking,
@@ -13,14 +13,14 @@ pub struct Original {
 }
 
 // The first `len`, in the order of coming.
-#[derive(Drop)]
+#[derive(Clone, Copy)]
 pub struct Originals {
     pub calls: [Original; 1024],
     pub len: usize,
 }
 
 // A resend has the answer of its original. A clash is another call under an original's key, and has what it differs in.
-#[derive(Drop)]
+#[derive(Clone, Copy)]
 pub enum Mark {
     Original,
     Resend(u8),

@@ -11,7 +11,7 @@ pub const SKILL: u8 = 0;
 pub const WAIT: u8 = 2;
 
 // Guests 1 to 128, by row.
-#[derive(Drop)]
+#[derive(Clone, Copy)]
 pub struct Roster {
     pub ids: [u64; 128],
     pub ratings: [f64; 128],

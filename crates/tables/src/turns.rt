@@ -2,7 +2,7 @@
 use hall::Hall;
 
 // How often each game was passed over in a row: it had enough before the dispatch, and another was served.
-#[derive(Drop)]
+#[derive(Clone, Copy)]
 pub struct Turns {
     pub passed: [u64; 8],
 }

@@ -6,7 +6,7 @@ use matchmaker::{ProposedMatch, Team};
 use words::Cursor;
 
 // The first `count`, or none where `count` is above 64.
-#[derive(Drop)]
+#[derive(Clone, Copy)]
 pub struct ReadCandidates {
     pub candidates: [ProposedMatch; 64],
     pub count: usize,

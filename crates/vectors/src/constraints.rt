@@ -4,19 +4,19 @@ use constraint::{Brought, Constraints, sizes};
 use sizes::TeamSizeConstraint;
 use words::Cursor;
 
-#[derive(Drop)]
+#[derive(Clone, Copy)]
 pub struct ReadSizes {
     pub sizes: TeamSizeConstraint,
     pub cursor: Cursor,
 }
 
-#[derive(Drop)]
+#[derive(Clone, Copy)]
 struct ReadBrought {
     brought: Brought,
     cursor: Cursor,
 }
 
-#[derive(Drop)]
+#[derive(Clone, Copy)]
 pub struct ReadConstraints {
     pub constraints: Constraints,
     pub cursor: Cursor,

@@ -4,7 +4,7 @@ use objective::pareto;
 use pareto::{MatchObjectiveVector, ObjectiveWeights};
 use words::Cursor;
 
-#[derive(Drop)]
+#[derive(Clone, Copy)]
 pub struct ReadVector {
     pub vector: MatchObjectiveVector,
     pub cursor: Cursor,

@@ -6,7 +6,7 @@ use crate::words;
 use words::Cursor;
 
 // How many were read.
-#[derive(Drop)]
+#[derive(Clone, Copy)]
 pub struct Listed {
     pub len: usize,
     pub cursor: Cursor,

@@ -1,5 +1,6 @@
 // Replays stored answers with the proved functions: reads the lines from standard input, and says how many of each function's
 // answers differ. The head of the input says what stands on a line; one that is malformed, or of no known function, differs.
+#![tactic(auto)]
 
 // Words of a line.
 mod words;

@@ -7,7 +7,7 @@ use soft::SoftObjective;
 use words::Cursor;
 
 // The first `count`, and whether all their kinds are known.
-#[derive(Drop)]
+#[derive(Clone, Copy)]
 pub struct ReadObjectives {
     pub kinds: [u64; 8],
     pub weights: [f64; 8],

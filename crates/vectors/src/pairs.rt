@@ -6,13 +6,13 @@ use constraint::regions;
 use regions::{RegionConstraint, RegionPair};
 use words::Cursor;
 
-#[derive(Drop)]
+#[derive(Clone, Copy)]
 struct ReadPair {
     pair: RegionPair,
     cursor: Cursor,
 }
 
-#[derive(Drop)]
+#[derive(Clone, Copy)]
 pub struct ReadPairs {
     pub regions: RegionConstraint,
     pub cursor: Cursor,

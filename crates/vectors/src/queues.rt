@@ -5,13 +5,13 @@ use crate::{floats, words};
 use queue::{Queue, QueueEntry};
 use words::Cursor;
 
-#[derive(Drop)]
+#[derive(Clone, Copy)]
 pub struct ReadEntry {
     pub entry: QueueEntry,
     pub cursor: Cursor,
 }
 
-#[derive(Drop)]
+#[derive(Clone, Copy)]
 pub struct ReadQueue {
     pub queue: Queue,
     pub cursor: Cursor,

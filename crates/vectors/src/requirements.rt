@@ -6,13 +6,13 @@ use constraint::roles;
 use roles::{Maximum, RoleConstraint, RoleRequirement};
 use words::Cursor;
 
-#[derive(Drop)]
+#[derive(Clone, Copy)]
 struct ReadRequirement {
     requirement: RoleRequirement,
     cursor: Cursor,
 }
 
-#[derive(Drop)]
+#[derive(Clone, Copy)]
 pub struct ReadRequirements {
     pub roles: RoleConstraint,
     pub cursor: Cursor,

@@ -8,7 +8,7 @@ use lists::Listed;
 use seating::{Formed, TeamComposition};
 use words::Cursor;
 
-#[derive(Drop)]
+#[derive(Clone, Copy)]
 pub struct ReadSizes {
     pub sizes: TeamComposition,
     pub cursor: Cursor,

@@ -5,13 +5,13 @@ use crate::{lists, words};
 use matchmaker::{ProposedMatch, Team};
 use words::Cursor;
 
-#[derive(Drop)]
+#[derive(Clone, Copy)]
 pub struct ReadTeam {
     pub team: Team,
     pub cursor: Cursor,
 }
 
-#[derive(Drop)]
+#[derive(Clone, Copy)]
 pub struct ReadMatch {
     pub proposed: ProposedMatch,
     pub cursor: Cursor,

@@ -4,7 +4,7 @@ use objective::score;
 use score::MatchObjective;
 use words::Cursor;
 
-#[derive(Drop)]
+#[derive(Clone, Copy)]
 pub struct ReadWeights {
     pub weights: MatchObjective,
     pub cursor: Cursor,

@@ -7,7 +7,7 @@ use seating::TeamComposition;
 use words::Cursor;
 
 // What the line says before its columns.
-#[derive(Drop)]
+#[derive(Clone, Copy)]
 struct Asked {
     width: usize,
     queue: Queue,

@@ -9,7 +9,7 @@ use seating::TeamComposition;
 use words::Cursor;
 
 // What the line says before its columns.
-#[derive(Drop)]
+#[derive(Clone, Copy)]
 struct Asked {
     queue: Queue,
     sizes: TeamComposition,
