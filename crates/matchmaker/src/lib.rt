@@ -1,5 +1,6 @@
 // Teams, proposed matches and match quality (matchmaker.rs).
 #![tactic(auto)]
+
 ghost use Rattle.std.specs.Prelude.{◌≡◌, ◌+◌, ◌≤◌, ◌++◌, length, take, drop, replicate};
 ghost use mathlib.Core.List.{foldl};
 ghost use Rattle.std.specs.Float.Ieee as Ieee;

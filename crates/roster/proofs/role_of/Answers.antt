@@ -1,0 +1,23 @@
+-- `roster::role_of` meets its contract: where the row is in both columns the answer stands in it, and elsewhere it is 0.
+use mathlib.Core.Path.{sym, ap}
+use mathlib.Core.Option.{Option, get_or}
+use Prim.Native.Nat.{ℕ}
+use native.Mathlib.Omega.{arith}
+use Rattle.roster.proofs.Laws.{observe_row, observe_no_row, observe_short}
+use Rattle.roster.proofs.role_of.Goals as goal
+
+pub returns-then-ids-row : goal.returns-then-ids-row
+returns-then-ids-row c =
+    let a = c.args in
+    sym (ap (λ (o : Option ℕ). get_or o 0) (observe_no_row a.player a.ids.now a.roles.now (omega arith)))
+
+pub returns-then-roles-row : goal.returns-then-roles-row
+returns-then-roles-row c =
+    let a = c.args in
+    sym (ap (λ (o : Option ℕ). get_or o 0) (observe_short a.player a.ids.now a.roles.now (omega arith)))
+
+pub returns : goal.returns
+returns c =
+    let a = c.args in
+    rw c.row_of-row.ensures
+    (sym (ap (λ (o : Option ℕ). get_or o 0) (observe_row a.player a.ids.now a.roles.now 0 (omega arith) (omega arith))))

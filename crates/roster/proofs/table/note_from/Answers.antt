@@ -1,0 +1,42 @@
+-- `roster::table::note_from` meets its contract: the rows gone by are in the table and differ.
+use mathlib.Core.Path.{◌≡◌}
+use native.Mathlib.Omega.{arith}
+use lib.ListN.{length, get_or}
+use Rattle.base.proofs.Cases.{never}
+use Rattle.roster.proofs.Buckets.{walk_noted, walk_finds, differ_on, differ_not, differ_no_more, differ_all}
+use borrow.Author.Rules.{rules}
+use Rattle.roster.proofs.table.note_from.Goals as goal
+
+pub loop-i-init : goal.loop-i-init
+loop-i-init c = (omega arith, search rules, search rules)
+
+pub last_of-requires : goal.last_of-requires
+last_of-requires c =
+    let l = c.loop-i in
+    let a = c.args in
+    let m = c.note-earlier.ensures in
+    let told = walk_noted a.ids.now (get_or a.ids.now l.i 0) l.i m.noted_2 (omega arith) m.value.0 (omega arith) (omega arith) in
+    record { from_in_bounds = told.0; before_len = told.1.0; from_value = told.1.1 }
+
+pub returns-then-last_of-gt0 : goal.returns-then-last_of-gt0
+returns-then-last_of-gt0 c =
+    let l = c.loop-i in
+    let a = c.args in
+    let m = c.note-earlier.ensures in
+    let k = walk_finds a.ids.now (get_or a.ids.now l.i 0) l.i m.value.0 c.last_of.ensures in
+    record { value = differ_no_more a.ids.now (length a.ids.now) (differ_not a.ids.now l.i (length a.ids.now) (omega arith) (omega arith) (omega arith)); noted_2 = λ e. never cc }
+
+pub loop-i-preserved : goal.loop-i-preserved
+loop-i-preserved c =
+    let l = c.loop-i in
+    let a = c.args in
+    let m = c.note-earlier.ensures in
+    let k = walk_finds a.ids.now (get_or a.ids.now l.i 0) l.i m.value.0 c.last_of.ensures in
+    (omega arith, differ_on a.ids.now l.i (omega arith) l.invariant.1 (omega arith), m.noted_2)
+
+pub returns : goal.returns
+returns c =
+    let l = c.loop-i in
+    let a = c.args in
+    let e : l.i ≡ length a.ids.now = omega arith in
+    record { value = differ_all a.ids.now l.i (omega arith) l.invariant.1; noted_2 = λ t. rw e at l.invariant.2 }
