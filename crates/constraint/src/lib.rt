@@ -1,6 +1,7 @@
 // The hard constraints of a match (constraint.rs). Each kind judges a match by the columns that it reads; `Constraints` brings any
 // of the five together.
 #![tactic(auto)]
+
 ghost use Rattle.std.specs.Prelude.{◌≡◌, not, ◌&&◌, ◌||◌};
 ghost use Rattle.base.specs.Refusals.{checked_of};
 ghost use Rattle.roster.specs.Roster.{of_ratings, of_parties, of_roles, of_regions, of_rules};

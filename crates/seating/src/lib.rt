@@ -1,5 +1,6 @@
 // Matches gathered by value, and the sheets that they are written to.
 #![tactic(auto)]
+
 ghost use Rattle.std.specs.Prelude.{◌≡◌, [], map, length, take};
 ghost use Rattle.roster.specs.Roster.{of_ratings};
 ghost use Rattle.matchmaker.specs.Quality.{team_of, match_of, seated, quality_of};

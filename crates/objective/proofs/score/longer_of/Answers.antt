@@ -1,0 +1,11 @@
+-- `score::longer_of` meets its contract: the test is the definition.
+use Rattle.objective.specs.Score.{longer}
+use Rattle.objective.proofs.score.longer_of.Goals as goal
+
+pub returns-then-x-y : goal.returns-then-x-y
+unfolding longer
+returns-then-x-y c = rw c.if-x-y.true
+
+pub returns : goal.returns
+unfolding longer
+returns c = rw c.if-x-y.false

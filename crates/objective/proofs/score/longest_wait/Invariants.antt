@@ -1,0 +1,25 @@
+-- `score::longest_wait` meets its contract: the longest so far with the rest of the players makes the longest of all.
+use Prim.Native.Nat.{ℕ, ◌-◌, ◌≤◌}
+use mathlib.Core.Path.{◌≡◌, refl, sym, ◌∙◌}
+use mathlib.Core.List.{List, foldl}
+use native.Mathlib.Omega.{arith}
+use lib.ListN.{length, drop}
+use lib.Ieee.{Float}
+use Rattle.base.specs.Floats.{zero}
+use Rattle.base.proofs.Loops.{fold_on, fold_end}
+use Rattle.matchmaker.specs.Steps.{absorb}
+use Rattle.matchmaker.proofs.Laws.{fold_observations}
+use Rattle.objective.specs.Score.{longer}
+use Rattle.objective.specs.Steps.{column_wait}
+use borrow.Author.Rules.{rules}
+use Rattle.objective.proofs.score.longest_wait.Given as goal
+
+-- one player's part in the longest wait
+abbrev step : List ℕ → List ℕ → ℕ → Float → ℕ → Float
+step waiting joined clock longest player = absorb longer longest (column_wait clock waiting joined player)
+
+abbrev pub invariant-loop-i : goal.invariant-loop-i
+invariant-loop-i l = (l.i ≤ length l.players) × (foldl (step l.waiting l.joined l.clock) l.longest (drop l.i l.players) ≡ foldl (step l.waiting l.joined l.clock) zero l.players)
+
+abbrev pub decreases-loop-i : goal.decreases-loop-i
+decreases-loop-i l = length l.players - l.i

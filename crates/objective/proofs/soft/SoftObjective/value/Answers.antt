@@ -1,0 +1,23 @@
+-- `SoftObjective::value` meets its contract: one law for each of its returns.
+use mathlib.Core.Path.{sym, ◌∙◌}
+use Rattle.roster.specs.Roster.{of_ratings}
+use Rattle.matchmaker.specs.Quality.{match_of}
+use Rattle.objective.proofs.Laws.{value_overfull, value_roster, value_given}
+use borrow.Author.Rules.{rules}
+use Rattle.objective.proofs.soft.SoftObjective.value.Goals as goal
+
+pub returns-then-is_overfull : goal.returns-then-is_overfull
+returns-then-is_overfull c =
+    let a = c.args in
+    value_overfull (of_ratings a.ids.now a.ratings.now) (match_of a.proposed) a.self (sym c.is_overfull.ensures ∙ c.if-is_overfull.true)
+
+pub returns-in-Refused : goal.returns-in-Refused
+returns-in-Refused c =
+    let a = c.args in
+    value_roster (of_ratings a.ids.now a.ratings.now) (match_of a.proposed) a.self (sym c.is_overfull.ensures ∙ c.if-is_overfull.false) _ c.check_ratings.ensures c.in-Refused.is
+
+pub returns : goal.returns
+returns c =
+    let a = c.args in
+    let e = rw (c.rated_quality-quality.ensures, c.rated_latency-latency.ensures) at c.value_from.ensures in
+    value_given (of_ratings a.ids.now a.ratings.now) (match_of a.proposed) a.self (sym c.is_overfull.ensures ∙ c.if-is_overfull.false) _ c.check_ratings.ensures c.in_default.is e

@@ -1,0 +1,6 @@
+-- `soft::rated_soft_score` meets its contract, by those of the three it calls.
+use borrow.Author.Rules.{rules}
+use Rattle.objective.proofs.soft.rated_soft_score.Goals as goal
+
+pub returns : goal.returns
+returns c = rw (c.weighted_sum.ensures, c.rated_latency-latency.ensures, c.rated_quality-quality.ensures)

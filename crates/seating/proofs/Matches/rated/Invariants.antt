@@ -1,0 +1,25 @@
+-- `Matches::rated` meets its contract. An array filled: what is written are the qualities of the first matches.
+use Prim.Native.Nat.{ℕ, ◌-◌, ◌≤◌}
+use mathlib.Core.Path.{◌≡◌, refl}
+use mathlib.Core.List.{List, map}
+use native.Mathlib.Omega.{arith}
+use lib.Ieee.{Float}
+use lib.ListN.{length, take, length-set}
+use Rattle.base.proofs.Arrays.{fill_on, unmapped, held_fits}
+use Rattle.roster.specs.Roster.{of_ratings}
+use Rattle.matchmaker.specs.declared.ProposedMatch.{ProposedMatch}
+use Rattle.matchmaker.specs.Quality.{match_of, quality_of}
+use Rattle.seating.specs.Seating.{matches_of}
+use Rattle.seating.proofs.Laws.{matches_held, filled_held}
+use borrow.Author.Rules.{rules}
+use Rattle.seating.proofs.Matches.rated.Given as goal
+
+-- the quality of a match
+abbrev quality : List ℕ → List Float → ProposedMatch → Float
+quality ids ratings m = quality_of (of_ratings ids ratings) (match_of m).a.players (match_of m).b.players
+
+abbrev pub invariant-loop-i : goal.invariant-loop-i
+invariant-loop-i l = (l.n ≤ 64) × (l.i ≤ l.n) × (length l.out ≡ 64) × (take l.i l.out ≡ map (quality l.ids l.ratings) (take l.i l.items))
+
+abbrev pub decreases-loop-i : goal.decreases-loop-i
+decreases-loop-i l = l.n - l.i

@@ -1,0 +1,11 @@
+-- One law for each test.
+use Rattle.matchmaker.specs.Quality.{match_of}
+use Rattle.seating.proofs.TurnLaws.{full_a, not_full_a}
+use borrow.Author.Rules.{rules}
+use Rattle.seating.proofs.turns.is_complete.Goals as goal
+
+pub returns-then-held-sizes : goal.returns-then-held-sizes
+returns-then-held-sizes c = full_a c.args.sizes (match_of c.args.proposed) c.held.ensures c.if-held-sizes.true c.held-then-held-sizes.ensures
+
+pub returns : goal.returns
+returns c = not_full_a c.args.sizes (match_of c.args.proposed) c.held.ensures c.if-held-sizes.false
