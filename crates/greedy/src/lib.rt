@@ -1,5 +1,6 @@
 // GreedySearch of search.rs: an anchor opens a match, and every seat goes to the nearest player who is left.
 #![tactic(auto)]
+
 ghost use Rattle.std.specs.Prelude.{◌≡◌, List, map, ◌+◌, ◌-◌, ◌≤◌, ◌<◌, min, length, take, get_or};
 ghost use Rattle.std.specs.Float.{nan};
 ghost use Rattle.base.specs.Lists.{All, places_from};

@@ -1,6 +1,7 @@
 // Hard constraints and soft objectives together (policy.rs, MatchPolicy). An array of enums is no field of a struct, so the
 // objectives stand beside the constraints as an array and a count.
 #![tactic(auto)]
+
 ghost use Rattle.std.specs.Prelude.{◌≡◌};
 ghost use Rattle.roster.specs.Roster.{of_rules};
 ghost use Rattle.matchmaker.specs.Quality.{match_of};

@@ -87,7 +87,7 @@ module _ (f : Format) (m : ℕ) (e : ℤ) where
 
   signed_units : (q k : ℕ) → T (le (units f true q k) (fin false (suc m) e))
   unfolding units
-  signed_units q k = pick (λ (z : Float). T (le z (fin false (suc m) e))) (ltb (q * 2 ^ k) (2 ^ (low f + suc (emax f)))) (signed_odd _ q k _) signed_inf
+  signed_units q k = pick (λ (z : Float). T (le z (fin false (suc m) e))) (ltb (q * 2 ^ k) (2 ^ (low f + suc (emax f)))) (signed_odd (suc (prec f)) q k (low f)) signed_inf
 
   signed_rounded : (a c : ℕ) → T (le (round f true a c) (fin false (suc m) e))
   signed_rounded a c = subst (λ (z : Float). T (le z (fin false (suc m) e))) (sym (round_is f true a c)) (signed_units _ _)

@@ -1,5 +1,6 @@
 // Choosing among candidate matches (selection.rs). Each selection answers with the places of the chosen in the given list.
 #![tactic(auto)]
+
 ghost use Rattle.std.specs.Prelude.{◌≡◌, cond, [], ◌∷◌, map, ◌≤◌, take};
 ghost use Rattle.base.specs.Refusals.{refused, gives, refusal_number, checked_of};
 ghost use Rattle.base.specs.Lists.{any};

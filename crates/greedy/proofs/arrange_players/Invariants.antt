@@ -1,0 +1,16 @@
+-- An array filled: what stands at the places so far.
+use Prim.Native.Nat.{◌-◌, ◌≤◌}
+use mathlib.Core.Path.{◌≡◌, refl}
+use mathlib.Core.List.{map}
+use native.Mathlib.Omega.{arith}
+use lib.ListN.{length, take, get_or, length-set}
+use Rattle.base.proofs.Arrays.{fill_on, fill_end}
+use Rattle.base.proofs.All.{place_below}
+use borrow.Author.Rules.{rules}
+use Rattle.greedy.proofs.arrange_players.Given as goal
+
+abbrev pub invariant-loop-k : goal.invariant-loop-k
+invariant-loop-k l = (l.k ≤ l.n) × (length l.out ≡ 64) × (take l.k l.out ≡ map (λ p. get_or l.column p 0) (take l.k l.places))
+
+abbrev pub decreases-loop-k : goal.decreases-loop-k
+decreases-loop-k l = l.n - l.k

@@ -1,0 +1,17 @@
+-- What is left to fill still gives the whole, and the column of those who are free goes with the marks.
+use Prim.Native.Nat.{ℕ}
+use mathlib.Core.Path.{◌≡◌, refl, ap, ◌∙◌}
+use lib.ListN.{length, take, get_or}
+use Rattle.seating.specs.Turns.{seats_left}
+use Rattle.seating.proofs.TurnLaws.{held_whole}
+use Rattle.greedy.specs.Steps.{columns, Fill, fill_of, free_of, filling}
+use Rattle.greedy.proofs.Laws.{fills_end, fills_none, fills_on, pick_used}
+use Rattle.greedy.proofs.Free.{whole_free, still_free, nearest_free_lem}
+use borrow.Author.Rules.{rules}
+use Rattle.greedy.proofs.fill.Given as goal
+
+abbrev pub invariant-loop-left : goal.invariant-loop-left
+invariant-loop-left l = (length l.used ≡ 64) × (l.free ≡ free_of l.ratings l.used) × (filling l.sizes (columns (take l.n l.players) l.ratings l.rostered) l.n l.left (fill_of l.used l.out) ≡ filling l.sizes (columns (take l.n l.players) l.ratings l.rostered) l.n l.initial.left (fill_of l.initial.used l.initial.out))
+
+abbrev pub decreases-loop-left : goal.decreases-loop-left
+decreases-loop-left l = l.left

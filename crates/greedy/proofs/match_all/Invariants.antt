@@ -1,0 +1,19 @@
+-- The marks and the sheets so far are what that many anchors make, and the column of those who are free goes with the marks.
+use Prim.Native.Nat.{◌+◌, ◌-◌, ◌≤◌}
+use mathlib.Core.Path.{◌≡◌, refl}
+use native.Mathlib.Omega.{arith}
+use lib.ListN.{length, take}
+use Rattle.base.proofs.All.{place_below}
+use Rattle.roster.specs.Roster.{of_ratings}
+use Rattle.greedy.specs.Steps.{columns, fill_of, free_of, paper_of}
+use Rattle.greedy.proofs.Free.{free_all}
+use Rattle.greedy.proofs.Papers.{Reached, reached_none, reached_used, reached_filled, reached_end, reached_room, reached_space, reached_long}
+use borrow.Author.Rules.{rules}
+use Rattle.greedy.proofs.match_all.Given as goal
+
+abbrev pub invariant-loop-i : goal.invariant-loop-i
+invariant-loop-i l = (l.i ≤ l.n) × (length l.entered ≡ 64) × (length l.used ≡ 64) × (l.free ≡ free_of l.entered l.used)
+    × Reached l.sizes (columns (take l.n l.players) l.entered l.rostered) l.turns l.n (of_ratings l.ids l.ratings) l.initial.seats l.initial.qualities l.i l.used (paper_of l.written l.seats l.qualities)
+
+abbrev pub decreases-loop-i : goal.decreases-loop-i
+decreases-loop-i l = l.n - l.i

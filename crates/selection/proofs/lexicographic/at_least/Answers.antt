@@ -1,0 +1,46 @@
+-- A sieve: what is kept and what the rest keeps make all that is kept.
+use Rattle.selection.specs.declared.lexicographic.Candidate.{Candidate}
+use Rattle.objective.specs.declared.soft.SoftObjective.{SoftObjective}
+use mathlib.Core.Bool.{Bool}
+use Prim.Native.Nat.{◌-◌, ◌≤◌, ℕ}
+use mathlib.Core.Path.{◌≡◌, sym, ap, ◌∙◌}
+use mathlib.Core.List.{◌++◌, map, List}
+use native.Mathlib.Omega.{arith}
+use lib.Ieee.{le, Float}
+use lib.ListN.{length, take, drop, length-set}
+use Rattle.base.specs.Lists.{keep}
+use Rattle.base.proofs.Loops.{keep_on_of, keep_skip_of, keep_end_of}
+use Rattle.roster.specs.Roster.{of_ratings}
+use Rattle.selection.specs.Selection.{value_of}
+use Rattle.selection.specs.Steps.{still_in_of}
+use Rattle.selection.proofs.Laws.{keep_map}
+use borrow.Author.Rules.{rules}
+use Rattle.selection.proofs.lexicographic.at_least.Goals as goal
+
+-- is the candidate's value at least the bound?
+abbrev reaches : Float → SoftObjective → List ℕ → List Float → Candidate → Bool
+reaches bound objective ids ratings candidate = le bound (value_of (of_ratings ids ratings) objective (still_in_of candidate))
+
+pub loop-i-preserved-then-bound-value : goal.loop-i-preserved-then-bound-value
+loop-i-preserved-then-bound-value c =
+    let s = c.args in
+    let l = c.loop-i in
+    let t = sym (ap (le s.bound) c.value.ensures) ∙ c.if-bound-value.true in
+    (omega arith, omega arith, simp length-set l.invariant.2, keep_on_of (reaches s.bound s.objective s.ids.now s.ratings.now) s.kept s.n l.out l.k l.i _ (omega arith) l.invariant.3 (omega arith) (omega arith) t)
+
+pub loop-i-preserved : goal.loop-i-preserved
+loop-i-preserved c =
+    let s = c.args in
+    let l = c.loop-i in
+    let t = sym (ap (le s.bound) c.value.ensures) ∙ c.if-bound-value.false in
+    (omega arith, omega arith, l.invariant.2, keep_skip_of (reaches s.bound s.objective s.ids.now s.ratings.now) s.kept s.n l.out l.k l.i _ (omega arith) l.invariant.3 (omega arith) t)
+
+pub returns : goal.returns
+returns c =
+    let s = c.args in
+    let l = c.loop-i in
+    let r = of_ratings s.ids.now s.ratings.now in (
+      ap (map still_in_of) (keep_end_of (reaches s.bound s.objective s.ids.now s.ratings.now) s.kept s.n l.out l.k l.i (omega arith) l.invariant.3 (omega arith) (omega arith))
+          ∙ keep_map still_in_of (λ k. le s.bound (value_of r s.objective k)) (take s.n s.kept),
+      omega arith,
+    )

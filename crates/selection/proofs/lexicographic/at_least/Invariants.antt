@@ -1,0 +1,28 @@
+-- A sieve: what is kept and what the rest keeps make all that is kept.
+use Rattle.selection.specs.declared.lexicographic.Candidate.{Candidate}
+use Rattle.objective.specs.declared.soft.SoftObjective.{SoftObjective}
+use mathlib.Core.Bool.{Bool}
+use Prim.Native.Nat.{◌-◌, ◌≤◌, ℕ}
+use mathlib.Core.Path.{◌≡◌, sym, ap, ◌∙◌}
+use mathlib.Core.List.{◌++◌, map, List}
+use native.Mathlib.Omega.{arith}
+use lib.Ieee.{le, Float}
+use lib.ListN.{length, take, drop, length-set}
+use Rattle.base.specs.Lists.{keep}
+use Rattle.base.proofs.Loops.{keep_on_of, keep_skip_of, keep_end_of}
+use Rattle.roster.specs.Roster.{of_ratings}
+use Rattle.selection.specs.Selection.{value_of}
+use Rattle.selection.specs.Steps.{still_in_of}
+use Rattle.selection.proofs.Laws.{keep_map}
+use borrow.Author.Rules.{rules}
+use Rattle.selection.proofs.lexicographic.at_least.Given as goal
+
+-- is the candidate's value at least the bound?
+abbrev reaches : Float → SoftObjective → List ℕ → List Float → Candidate → Bool
+reaches bound objective ids ratings candidate = le bound (value_of (of_ratings ids ratings) objective (still_in_of candidate))
+
+abbrev pub invariant-loop-i : goal.invariant-loop-i
+invariant-loop-i l = (l.i ≤ l.n) × (l.k ≤ l.i) × (length l.out ≡ 64) × (take l.k l.out ++ keep (reaches l.bound l.objective l.ids l.ratings) (drop l.i (take l.n l.kept)) ≡ keep (reaches l.bound l.objective l.ids l.ratings) (take l.n l.kept))
+
+abbrev pub decreases-loop-i : goal.decreases-loop-i
+decreases-loop-i l = l.n - l.i

@@ -1,0 +1,21 @@
+-- What is kept so far, narrowed by the rest of the objectives, is what all of them leave.
+use lib.Dec.{eqb}
+use Prim.Native.Nat.{◌-◌, ◌≤◌}
+use mathlib.Core.Path.{◌≡◌, ◌∙◌}
+use mathlib.Core.Bool.{false}
+use native.Mathlib.Omega.{arith}
+use borrow.Author.Tests.{eq-eqb, ne_eqb}
+use lib.ListN.{length, take, drop}
+use Rattle.base.proofs.Arrays.{unmapped}
+use Rattle.roster.specs.Roster.{of_ratings}
+use Rattle.selection.specs.Selection.{narrowed}
+use Rattle.selection.specs.Steps.{shortlist_of}
+use Rattle.selection.proofs.Laws.{listed_length, narrow_stops, narrow_on, narrow_end}
+use borrow.Author.Rules.{rules}
+use Rattle.selection.proofs.lexicographic.narrow.Given as goal
+
+abbrev pub invariant-loop-i : goal.invariant-loop-i
+invariant-loop-i l = (l.i ≤ l.count) × (l.kept.len ≤ 64) × (narrowed (of_ratings l.ids l.ratings) (drop l.i (take l.count l.objectives)) (shortlist_of l.kept) ≡ narrowed (of_ratings l.ids l.ratings) (take l.count l.objectives) (shortlist_of l.initial.kept))
+
+abbrev pub decreases-loop-i : goal.decreases-loop-i
+decreases-loop-i l = l.count - l.i

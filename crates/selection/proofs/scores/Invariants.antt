@@ -1,0 +1,25 @@
+-- An array filled: what is written are the scores of the first candidates.
+use Rattle.objective.specs.declared.soft.SoftObjective.{SoftObjective}
+use Rattle.matchmaker.specs.declared.ProposedMatch.{ProposedMatch}
+use lib.Ieee.{Float}
+use Prim.Native.Nat.{ℕ, ◌-◌, ◌≤◌}
+use mathlib.Core.Path.{◌≡◌, sym, ap, ◌∙◌}
+use mathlib.Core.List.{map, List, map-map}
+use native.Mathlib.Omega.{arith}
+use lib.ListN.{length, take, length-set}
+use Rattle.base.proofs.Arrays.{fill_on}
+use Rattle.roster.specs.Roster.{of_ratings}
+use Rattle.matchmaker.specs.Quality.{match_of}
+use Rattle.objective.specs.Soft.{soft_score_of}
+use borrow.Author.Rules.{rules}
+use Rattle.selection.proofs.scores.Given as goal
+
+-- the score of a candidate
+abbrev score : List SoftObjective → ℕ → List ℕ → List Float → ProposedMatch → Float
+score objectives count ids ratings candidate = soft_score_of (of_ratings ids ratings) (match_of candidate) (take count objectives)
+
+abbrev pub invariant-loop-i : goal.invariant-loop-i
+invariant-loop-i l = (l.i ≤ l.n) × (length l.out ≡ 64) × (take l.i l.out ≡ map (score l.objectives l.count l.ids l.ratings) (take l.i l.candidates))
+
+abbrev pub decreases-loop-i : goal.decreases-loop-i
+decreases-loop-i l = l.n - l.i

@@ -1,0 +1,23 @@
+-- An array filled: what is written are the scores of the first candidates.
+use Rattle.matchmaker.specs.declared.ProposedMatch.{ProposedMatch}
+use Prim.Native.Nat.{ℕ, ◌-◌, ◌≤◌}
+use mathlib.Core.Path.{◌≡◌, sym, ap, ◌∙◌}
+use mathlib.Core.List.{map, List, map-map}
+use native.Mathlib.Omega.{arith}
+use lib.ListN.{length, take, length-set}
+use lib.Ieee.{binary64, mul, Float}
+use Rattle.base.proofs.Arrays.{fill_on}
+use Rattle.roster.specs.Roster.{of_ratings}
+use Rattle.matchmaker.specs.Quality.{match_of, quality_of}
+use borrow.Author.Rules.{rules}
+use Rattle.selection.proofs.weighted.skill_scores.Given as goal
+
+-- the score of a candidate: the skill weight times its quality
+abbrev score : Float → List ℕ → List Float → ProposedMatch → Float
+score skill ids ratings candidate = mul binary64 skill (quality_of (of_ratings ids ratings) (match_of candidate).a.players (match_of candidate).b.players)
+
+abbrev pub invariant-loop-i : goal.invariant-loop-i
+invariant-loop-i l = (l.i ≤ l.n) × (length l.out ≡ 64) × (take l.i l.out ≡ map (score l.weights.skill l.ids l.ratings) (take l.i l.candidates))
+
+abbrev pub decreases-loop-i : goal.decreases-loop-i
+decreases-loop-i l = l.n - l.i
