@@ -1,5 +1,6 @@
 // The best choice of a full round: every choice of the queue is tried, and the best of those that pass is kept.
 #![tactic(auto)]
+
 ghost use Rattle.std.specs.Prelude.{◌≡◌, cond, ◌&&◌, ltb, ℕ, ◌+◌, ◌*◌, ◌≤◌, ◌<◌, ◌^◌, [], map, length, take, get_or};
 ghost use Rattle.std.specs.Float.Ieee.{lt};
 ghost use Rattle.base.specs.Refusals.{refused, gives, refusal_number, checked_of};

@@ -1,0 +1,27 @@
+-- The limits of the requirements from i on.
+use Prim.Native.Nat.{ℕ, ◌≤◌}
+use mathlib.Core.Path.{◌≡◌, refl}
+use mathlib.Core.List.{map}
+use native.Mathlib.Omega.{arith}
+use lib.ListN.{length, take, drop}
+use Rattle.base.proofs.Arrays.{unmapped, held_fits}
+use Rattle.constraint.specs.declared.roles.RoleRequirement.{RoleRequirement}
+use Rattle.constraint.specs.Constraints.{requirements_of}
+use Rattle.choice.specs.Reading.{packed, capped, most_of}
+use Rattle.choice.proofs.Packing.{packed_start, packed_fit, packed_room, packed_on, packed_end, capped_low, most_low, bounds_made}
+use borrow.Author.Rules.{rules}
+use Rattle.choice.proofs.marks.bounds_of.Given as goal
+
+-- the least of a requirement, as a digit
+abbrev least_of : RoleRequirement → ℕ
+least_of q = capped q.least
+
+-- the most of a requirement, as a digit
+abbrev at_most : RoleRequirement → ℕ
+at_most q = most_of q.most
+
+abbrev pub invariant-loop-i : goal.invariant-loop-i
+invariant-loop-i l = (l.i ≤ l.asked) × (l.asked ≤ length l.requirements) × (length l.requirements ≡ 8) × (l.least ≡ packed (map least_of (drop l.i (take l.asked l.requirements)))) × (l.most ≡ packed (map at_most (drop l.i (take l.asked l.requirements))))
+
+abbrev pub decreases-loop-i : goal.decreases-loop-i
+decreases-loop-i l = l.i

@@ -1,0 +1,25 @@
+-- The places of the regions that may not meet, for each place so far.
+use Prim.Native.Nat.{◌-◌, ◌≤◌}
+use mathlib.Core.Path.{◌≡◌, refl}
+use mathlib.Core.List.{map}
+use native.Mathlib.Omega.{arith}
+use mathlib.Core.Bool.{not}
+use Rattle.constraint.specs.Constraints.{may_meet, pairs_of}
+use lib.ListN.{length, take, length-set}
+use Rattle.base.proofs.Arrays.{fill_on, fill_end}
+use Rattle.choice.specs.Reading.{marks}
+use borrow.Author.Rules.{rules}
+use Rattle.choice.proofs.marks.foes_of.Goals as goal
+
+pub loop-i-init : goal.loop-i-init
+loop-i-init c = (omega arith, search rules, refl)
+
+pub loop-i-preserved : goal.loop-i-preserved
+loop-i-preserved c =
+    let l = c.loop-i in
+    (omega arith, simp length-set l.invariant.1, fill_on (λ x. marks (λ y. not (may_meet (pairs_of c.args.allowed) x y)) (take c.args.n c.args.codes.now)) c.args.codes.now l.out l.i 0 (omega (arith, c.requires)) (omega arith) l.invariant.2 c.strangers.ensures)
+
+pub returns : goal.returns
+returns c =
+    let l = c.loop-i in
+    fill_end (λ x. marks (λ y. not (may_meet (pairs_of c.args.allowed) x y)) (take c.args.n c.args.codes.now)) c.args.codes.now l.out l.i c.args.n c.loop-i-test.false l.invariant.0 l.invariant.2

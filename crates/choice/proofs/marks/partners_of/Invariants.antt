@@ -1,0 +1,18 @@
+-- The places of the same party, for each place so far.
+use mathlib.Core.Bool.{not, ◌&&◌}
+use Prim.Native.Nat.{◌-◌, ◌≤◌}
+use mathlib.Core.Path.{◌≡◌, refl}
+use mathlib.Core.List.{map}
+use native.Mathlib.Omega.{arith}
+use lib.Dec.{eqb}
+use lib.ListN.{length, take, length-set}
+use Rattle.base.proofs.Arrays.{fill_on, fill_end}
+use Rattle.choice.specs.Reading.{marks}
+use borrow.Author.Rules.{rules}
+use Rattle.choice.proofs.marks.partners_of.Given as goal
+
+abbrev pub invariant-loop-i : goal.invariant-loop-i
+invariant-loop-i l = (l.i ≤ l.n) × (length l.out ≡ 64) × (take l.i l.out ≡ map (λ p. marks (λ q. not (eqb p 0) && eqb q p) (take l.n l.parties)) (take l.i l.parties))
+
+abbrev pub decreases-loop-i : goal.decreases-loop-i
+decreases-loop-i l = l.n - l.i

@@ -1,0 +1,6 @@
+-- The roster tells the party.
+use borrow.Author.Rules.{rules}
+use Rattle.choice.proofs.marks.party_in.Goals as goal
+
+pub returns-then-brought : goal.returns-then-brought
+returns-then-brought c = rw c.if-brought.true c.party_of.ensures

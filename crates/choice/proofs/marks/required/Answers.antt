@@ -1,0 +1,6 @@
+-- All requirements, or none.
+use borrow.Author.Rules.{rules}
+use Rattle.choice.proofs.marks.required.Goals as goal
+
+pub returns-then-brought : goal.returns-then-brought
+returns-then-brought c = rw c.if-brought.true
