@@ -2,6 +2,7 @@
 // are made of stands here, in functions of numbers and of bookings; the calls themselves, which take a hall and hand out the hall as they leave it, are the
 // exported ones: each function that a hall goes through copies it once more.
 #![tactic(auto)]
+
 ghost use Rattle.std.specs.Prelude.{◌≡◌, ltb};
 ghost use Rattle.base.specs.Numbers.{outcome_in};
 ghost use Rattle.hall.specs.Games.{is_no_game};
