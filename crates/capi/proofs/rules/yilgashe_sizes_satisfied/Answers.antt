@@ -1,0 +1,8 @@
+-- The verdict, in numbers.
+use mathlib.Core.Path.{ap, ◌∙◌}
+use Rattle.capi.specs.Rules.{verdict_numbers}
+use borrow.Author.Rules.{rules}
+use Rattle.capi.proofs.rules.yilgashe_sizes_satisfied.Goals as goal
+
+pub returns : goal.returns
+returns c = c.verdict_numbers.ensures ∙ ap verdict_numbers c.is_satisfied.ensures

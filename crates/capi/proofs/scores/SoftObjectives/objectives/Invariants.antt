@@ -1,0 +1,16 @@
+-- Each turn writes one objective behind those before it.
+use Prim.Native.Nat.{◌-◌, ◌≤◌}
+use mathlib.Core.Path.{◌≡◌, refl}
+use mathlib.Core.List.{◌++◌}
+use native.Mathlib.Omega.{arith}
+use lib.ListN.{length, take, drop, length-set}
+use Rattle.capi.specs.Scores.{softs_of}
+use Rattle.capi.proofs.Softs.{softs_on, softs_end}
+use borrow.Author.Rules.{rules}
+use Rattle.capi.proofs.scores.SoftObjectives.objectives.Given as goal
+
+abbrev pub invariant-loop-i : goal.invariant-loop-i
+invariant-loop-i l = (l.i ≤ 8) × (length l.out ≡ 8) × (take l.i l.out ++ softs_of (drop l.i l.kinds) (drop l.i l.weights) ≡ softs_of l.kinds l.weights)
+
+abbrev pub decreases-loop-i : goal.decreases-loop-i
+decreases-loop-i l = 8 - l.i
