@@ -1,5 +1,6 @@
 // The two forms that lend: a queue as a list of entries, and a hall that is changed in place.
 #![tactic(auto)]
+
 ghost use Rattle.std.specs.Prelude.{◌≡◌};
 ghost use Rattle.queue.specs.Queue.{wait_of, wait_rule, holding};
 ghost use Rattle.hall.specs.Hall.{hall_of, keyed_rule, book};
