@@ -1,6 +1,7 @@
 // Lines as they arrive. What is there is read and each whole line served at once, so that staff can type.
 use crate::desk::Desk;
 use crate::{commands, complaints, counts, print};
+use std::io::Read;
 
 // The line so far, of which 256 bytes are kept.
 #[derive(Clone, Copy)]
@@ -125,19 +126,21 @@ fn ended(session: Session) -> Session {
     }
 }
 
-// Reads once.
-fn read_some(fd: i32, session: Session) -> Session {
+// Reads once. A read that fails ends the input.
+fn read_some<R: Read>(input: &mut R, session: Session) -> std::io::Result<Session> {
     let mut part = io::buffer();
-    let got = libc::read(fd, &mut part);
-    if got < 0 {
-        os::fail(b"frontdesk: cannot read");
-        return ended(session);
+    match input.read(&mut part) {
+        Ok(n) => {
+            if n == 0 {
+                return Ok(ended(session));
+            }
+            Ok(serve_lines(&part[..n], session))
+        }
+        Err(error) => {
+            ended(session);
+            Err(error)
+        }
     }
-    if got == 0 {
-        return ended(session);
-    }
-    let n = io::count(got, &part);
-    serve_lines(&part[..n], session)
 }
 
 fn start(shown: bool) -> Session {
@@ -149,16 +152,14 @@ fn start(shown: bool) -> Session {
     }
 }
 
-// All of the input. A proved loop has to end, and nothing says that the input does: it counts down from a number that no run
-// uses up.
-pub fn serve_all(fd: i32, shown: bool) {
+// All of the input. A proved loop has to end, and nothing says that the input does: it counts up to a number that no run reaches.
+pub fn serve_all<R: Read>(input: &mut R, shown: bool) -> std::io::Result<()> {
     let mut session = start(shown);
-    let mut turns: u64 = u64::MAX;
-    while 0 < turns {
-        session = read_some(fd, session);
+    for _ in 0..u64::MAX {
+        session = read_some(input, session)?;
         if !session.more {
-            return;
+            break;
         }
-        turns -= 1;
     }
+    Ok(())
 }

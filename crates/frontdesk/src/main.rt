@@ -71,33 +71,40 @@ mod print;
 // The commands in brief.
 mod help;
 
-fn main() {
-    let count = os::arg_count();
-    if count < 2 {
-        input::serve_all(0, false);
-        return;
-    }
-    if 2 < count {
+fn main(rt: HostRuntime) -> std::io::Result<()> {
+    let mut words = std::env::args(&rt)?;
+    let _program = words.next();
+    let file = words.next();
+    if words.next().is_some() {
         io::write_all(2, b"frontdesk: expected one file of commands, or none\n");
-        return;
+        return Ok(());
     }
-    from_file();
+    match file {
+        None => {
+            let mut input = rt.stdin();
+            let served = input::serve_all(&mut input, false);
+            say_unread(&rt, served)
+        }
+        Some(path) => from_file(&rt, path.as_str()),
+    }
 }
 
 // Serves the file that the argument names, and shows each line before its answer.
-fn from_file() {
-    let mut path = io::buffer();
-    let n = os::arg(1, &mut path);
-    if os::errno() != 0 {
-        os::fail(b"frontdesk: cannot read the argument");
-        return;
+fn from_file(rt: &HostRuntime, path: &str) -> std::io::Result<()> {
+    match std::fs::File::open(rt, path) {
+        Ok(file) => {
+            let mut input = file;
+            let served = input::serve_all(&mut input, true);
+            say_unread(rt, served)
+        }
+        Err(error) => eprintln!(rt; "frontdesk: cannot open {path}: {error}"),
     }
-    let fd = os::open_read(&path[..n]);
-    if fd < 0 {
-        io::write_all(2, b"frontdesk: cannot open ");
-        os::fail(&path[..n]);
-        return;
+}
+
+// What ended the input before its end.
+fn say_unread(rt: &HostRuntime, served: std::io::Result<()>) -> std::io::Result<()> {
+    match served {
+        Ok(()) => Ok(()),
+        Err(error) => eprintln!(rt; "frontdesk: cannot read: {error}"),
     }
-    input::serve_all(fd, true);
-    libc::close(fd);
 }

@@ -101,7 +101,7 @@ fn bad_sizes(problem: Problem) -> ReadSizes {
 
 pub fn sizes(word: &[u8]) -> ReadSizes {
     let n = word.len();
-    let plus = bytes::scan::find(word, 0, n, b'+');
+    let plus = crate::words::place_of(word, 0, b'+');
     let a = numbers::whole(crate::words::part(word, 0, plus), u64::MAX);
     let b = numbers::whole(
         crate::words::part(word, std::num::wrapping_add_usize(plus, 1), n),

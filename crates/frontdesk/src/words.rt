@@ -22,13 +22,19 @@ fn past_blanks(text: &[u8], from: usize) -> usize
     text.len()
 }
 
+// The place of the first such byte from `from` on, or the text's end.
+pub fn place_of(text: &[u8], from: usize, byte: u8) -> usize {
+    for at in from..text.len() {
+        if text[at] == byte {
+            return at;
+        }
+    }
+    text.len()
+}
+
 // The place of the first blank from `from` on, or the line's end.
 fn word_end(text: &[u8], from: usize) -> usize {
-    let end = text.len();
-    if end < from {
-        return end;
-    }
-    bytes::scan::find(text, from, end, b' ')
+    place_of(text, from, b' ')
 }
 
 // The first word from `from` on.

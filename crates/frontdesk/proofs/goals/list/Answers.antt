@@ -1,0 +1,12 @@
+-- `frontdesk::goals::list` is safe and ends.
+use Rattle.std.proofs.Common.{◌-◌, rules}
+use Rattle.frontdesk.proofs.goals.list.Goals as goal
+
+pub loop-i-init : goal.loop-i-init
+loop-i-init c = tt
+
+pub loop-i-preserved-then-i-n : goal.loop-i-preserved-then-i-n
+loop-i-preserved-then-i-n c = tt
+
+pub loop-i-preserved : goal.loop-i-preserved
+loop-i-preserved c = tt

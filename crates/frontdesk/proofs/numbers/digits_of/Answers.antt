@@ -1,0 +1,9 @@
+-- `frontdesk::numbers::digits_of` is safe and ends.
+use Rattle.std.proofs.Common.{◌-◌, length, rules}
+use Rattle.frontdesk.proofs.numbers.digits_of.Goals as goal
+
+pub loop-i-init : goal.loop-i-init
+loop-i-init c = tt
+
+pub loop-i-preserved : goal.loop-i-preserved
+loop-i-preserved c = tt

@@ -1,0 +1,9 @@
+-- `frontdesk::tables::guests` is safe and ends.
+use Rattle.std.proofs.Common.{◌-◌, rules}
+use Rattle.frontdesk.proofs.tables.guests.Goals as goal
+
+pub loop-i-init : goal.loop-i-init
+loop-i-init c = tt
+
+pub loop-i-preserved : goal.loop-i-preserved
+loop-i-preserved c = tt

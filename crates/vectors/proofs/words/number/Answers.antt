@@ -1,0 +1,9 @@
+-- `vectors::words::number` is safe and ends. A value below 2^60 has room for one digit more.
+use Rattle.std.proofs.Common.{◌-◌, length, rules}
+use Rattle.vectors.proofs.words.number.Goals as goal
+
+pub loop-at-init : goal.loop-at-init
+loop-at-init c = tt
+
+pub loop-at-preserved : goal.loop-at-preserved
+loop-at-preserved c = tt
