@@ -51,8 +51,7 @@ pub struct Rounded {
 }
 
 // Nobody waits, no key is noted, and no game was served.
-#[unsafe(no_mangle)]
-pub extern "C" fn yilgashe_hall_empty(games: Games) -> Hall
+pub fn yilgashe_hall_empty(games: Games) -> Hall
     ensures { hall_of result ≡ empty games.sizes }
 {
     let booking = Booking {
@@ -78,8 +77,7 @@ pub extern "C" fn yilgashe_hall_empty(games: Games) -> Hall
 
 // ---- bookings and withdrawals
 
-#[unsafe(no_mangle)]
-pub extern "C" fn yilgashe_hall_book(hall: Hall, key: u64, booking: Booking) -> Keyed
+pub fn yilgashe_hall_book(hall: Hall, key: u64, booking: Booking) -> Keyed
     ensures { turn_in result ≡ keyed_rule (hall_of hall) key (book booking) }
 {
     let mut out = hall;
@@ -126,8 +124,7 @@ pub extern "C" fn yilgashe_hall_book(hall: Hall, key: u64, booking: Booking) -> 
     }
 }
 
-#[unsafe(no_mangle)]
-pub extern "C" fn yilgashe_hall_withdraw(hall: Hall, key: u64, player: u64) -> Keyed
+pub fn yilgashe_hall_withdraw(hall: Hall, key: u64, player: u64) -> Keyed
     ensures { turn_in result ≡ keyed_rule (hall_of hall) key (withdraw player) }
 {
     let mut out = hall;
@@ -171,8 +168,7 @@ pub extern "C" fn yilgashe_hall_withdraw(hall: Hall, key: u64, player: u64) -> K
 
 // ---- rounds
 
-#[unsafe(no_mangle)]
-pub extern "C" fn yilgashe_hall_greedy_round(
+pub fn yilgashe_hall_greedy_round(
     hall: Hall,
     game: u8,
     clock: u64,
@@ -221,8 +217,7 @@ pub extern "C" fn yilgashe_hall_greedy_round(
     }
 }
 
-#[unsafe(no_mangle)]
-pub extern "C" fn yilgashe_hall_beam_round(
+pub fn yilgashe_hall_beam_round(
     hall: Hall,
     search: BeamSearch,
     game: u8,
@@ -278,8 +273,7 @@ pub extern "C" fn yilgashe_hall_beam_round(
 }
 
 // A code that is no kind is refusal 1, before all others but 13, and changes nothing.
-#[unsafe(no_mangle)]
-pub extern "C" fn yilgashe_hall_full_round(
+pub fn yilgashe_hall_full_round(
     hall: Hall,
     game: u8,
     rules: RoundRules,
@@ -350,8 +344,7 @@ pub extern "C" fn yilgashe_hall_full_round(
 }
 
 // A greedy round of the game whose turn it is. `served` names it.
-#[unsafe(no_mangle)]
-pub extern "C" fn yilgashe_hall_dispatch(
+pub fn yilgashe_hall_dispatch(
     hall: Hall,
     clock: u64,
     ids: &[u64],

@@ -66,15 +66,13 @@ pub fn refusal_number(checked: Checked) -> u8
     }
 }
 
-#[unsafe(no_mangle)]
-pub extern "C" fn yilgashe_queue_empty() -> Queue
+pub fn yilgashe_queue_empty() -> Queue
     ensures { queue_of result ≡ holding [] }
 {
     Queue::empty()
 }
 
-#[unsafe(no_mangle)]
-pub extern "C" fn yilgashe_queue_enqueue(queue: Queue, entry: QueueEntry) -> Enqueued
+pub fn yilgashe_queue_enqueue(queue: Queue, entry: QueueEntry) -> Enqueued
     ensures { EnqueueNumbers (enqueue_rule (queue_of queue) entry) result }
 {
     let answer = queue.enqueue(entry);
@@ -86,8 +84,7 @@ pub extern "C" fn yilgashe_queue_enqueue(queue: Queue, entry: QueueEntry) -> Enq
     }
 }
 
-#[unsafe(no_mangle)]
-pub extern "C" fn yilgashe_queue_remove(queue: Queue, player: u64) -> Removed
+pub fn yilgashe_queue_remove(queue: Queue, player: u64) -> Removed
     ensures { RemoveNumbers (remove_rule (queue_of queue) player) result }
 {
     let answer = queue.remove(player);
@@ -122,8 +119,7 @@ pub extern "C" fn yilgashe_queue_remove(queue: Queue, player: u64) -> Removed
     }
 }
 
-#[unsafe(no_mangle)]
-pub extern "C" fn yilgashe_queue_remove_batch(queue: Queue, players: &[u64]) -> Batch
+pub fn yilgashe_queue_remove_batch(queue: Queue, players: &[u64]) -> Batch
     ensures { BatchNumbers (batch_rule (queue_of queue) players.now) result }
 {
     let answer = queue.remove_batch(players);
@@ -137,8 +133,7 @@ pub extern "C" fn yilgashe_queue_remove_batch(queue: Queue, players: &[u64]) -> 
     }
 }
 
-#[unsafe(no_mangle)]
-pub extern "C" fn yilgashe_queue_waiting_time(queue: Queue, player: u64, clock: u64) -> Wait
+pub fn yilgashe_queue_waiting_time(queue: Queue, player: u64, clock: u64) -> Wait
     ensures { result ≡ wait_numbers (wait_rule (queue_of queue) player clock) }
 {
     match queue.waiting_time(player, clock) {
@@ -160,8 +155,7 @@ pub extern "C" fn yilgashe_queue_waiting_time(queue: Queue, player: u64, clock: 
     }
 }
 
-#[unsafe(no_mangle)]
-pub extern "C" fn yilgashe_time_duration_since(later: u64, earlier: u64) -> Duration
+pub fn yilgashe_time_duration_since(later: u64, earlier: u64) -> Duration
     ensures { result ≡ duration_numbers (duration_rule later earlier) }
 {
     match queue::time::duration_since(later, earlier) {
@@ -176,8 +170,7 @@ pub extern "C" fn yilgashe_time_duration_since(later: u64, earlier: u64) -> Dura
     }
 }
 
-#[unsafe(no_mangle)]
-pub extern "C" fn yilgashe_time_as_secs_f64(nanos: u64) -> Seconds
+pub fn yilgashe_time_as_secs_f64(nanos: u64) -> Seconds
     ensures { result ≡ seconds_numbers (seconds_rule nanos) }
 {
     match queue::time::as_secs_f64(nanos) {

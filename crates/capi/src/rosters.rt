@@ -6,8 +6,7 @@ ghost use Rattle.base.specs.Numbers.{refusal_of};
 use crate::queues::refusal_number;
 
 // The refusal of the six columns, or 0.
-#[unsafe(no_mangle)]
-pub extern "C" fn yilgashe_roster_check(
+pub fn yilgashe_roster_check(
     ids: &[u64],
     ratings: &[f64],
     deviations: &[f64],

@@ -56,8 +56,7 @@ fn in_numbers(choice: Choice) -> Chosen
     }
 }
 
-#[unsafe(no_mangle)]
-pub extern "C" fn yilgashe_best_choice(
+pub fn yilgashe_best_choice(
     queue: Queue,
     sizes: TeamComposition,
     constraints: Constraints,

@@ -159,18 +159,13 @@ fn validity_numbers(validity: constraint::teams::Validity) -> Validity
     }
 }
 
-#[unsafe(no_mangle)]
-pub extern "C" fn yilgashe_sizes_satisfied(
-    sizes: TeamSizeConstraint,
-    proposed: ProposedMatch,
-) -> Verdict
+pub fn yilgashe_sizes_satisfied(sizes: TeamSizeConstraint, proposed: ProposedMatch) -> Verdict
     ensures { result ≡ verdict_numbers (sizes_rule sizes (match_of proposed)) }
 {
     verdict_numbers(sizes.is_satisfied(proposed))
 }
 
-#[unsafe(no_mangle)]
-pub extern "C" fn yilgashe_roles_satisfied(
+pub fn yilgashe_roles_satisfied(
     requirements: RoleRequirements,
     proposed: ProposedMatch,
     ids: &[u64],
@@ -182,30 +177,19 @@ pub extern "C" fn yilgashe_roles_satisfied(
     verdict_numbers(required.is_satisfied(proposed, ids, roles))
 }
 
-#[unsafe(no_mangle)]
-pub extern "C" fn yilgashe_parties_satisfied(
-    proposed: ProposedMatch,
-    ids: &[u64],
-    parties: &[u64],
-) -> Verdict
+pub fn yilgashe_parties_satisfied(proposed: ProposedMatch, ids: &[u64], parties: &[u64]) -> Verdict
     ensures { result ≡ verdict_numbers (parties_rule (of_parties ids.now parties.now) (match_of proposed)) }
 {
     verdict_numbers(constraint::parties::is_satisfied(proposed, ids, parties))
 }
 
-#[unsafe(no_mangle)]
-pub extern "C" fn yilgashe_latency_satisfied(
-    proposed: ProposedMatch,
-    ids: &[u64],
-    ratings: &[f64],
-) -> Verdict
+pub fn yilgashe_latency_satisfied(proposed: ProposedMatch, ids: &[u64], ratings: &[f64]) -> Verdict
     ensures { result ≡ verdict_numbers (latency_rule (of_ratings ids.now ratings.now) (match_of proposed)) }
 {
     verdict_numbers(constraint::latency::is_satisfied(proposed, ids, ratings))
 }
 
-#[unsafe(no_mangle)]
-pub extern "C" fn yilgashe_regions_satisfied(
+pub fn yilgashe_regions_satisfied(
     allowed: RegionConstraint,
     proposed: ProposedMatch,
     ids: &[u64],
@@ -216,8 +200,7 @@ pub extern "C" fn yilgashe_regions_satisfied(
     verdict_numbers(allowed.is_satisfied(proposed, ids, regions))
 }
 
-#[unsafe(no_mangle)]
-pub extern "C" fn yilgashe_constraints_satisfied(
+pub fn yilgashe_constraints_satisfied(
     constraints: Constraints,
     proposed: ProposedMatch,
     ids: &[u64],
@@ -234,8 +217,7 @@ pub extern "C" fn yilgashe_constraints_satisfied(
     ))
 }
 
-#[unsafe(no_mangle)]
-pub extern "C" fn yilgashe_team_validate(
+pub fn yilgashe_team_validate(
     size: usize,
     requirements: RoleRequirements,
     team: Team,
@@ -252,8 +234,7 @@ pub extern "C" fn yilgashe_team_validate(
 }
 
 // Minus infinity where a constraint is violated.
-#[unsafe(no_mangle)]
-pub extern "C" fn yilgashe_policy_score(
+pub fn yilgashe_policy_score(
     constraints: Constraints,
     objectives: SoftObjectives,
     proposed: ProposedMatch,

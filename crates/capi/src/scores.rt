@@ -100,12 +100,7 @@ impl SoftObjectives {
     }
 }
 
-#[unsafe(no_mangle)]
-pub extern "C" fn yilgashe_match_quality(
-    proposed: ProposedMatch,
-    ids: &[u64],
-    ratings: &[f64],
-) -> Scored
+pub fn yilgashe_match_quality(proposed: ProposedMatch, ids: &[u64], ratings: &[f64]) -> Scored
     ensures { result ≡ scored_numbers (quality_rule (of_ratings ids.now ratings.now) (match_of proposed)) }
 {
     match proposed.match_quality(ids, ratings) {
@@ -120,8 +115,7 @@ pub extern "C" fn yilgashe_match_quality(
     }
 }
 
-#[unsafe(no_mangle)]
-pub extern "C" fn yilgashe_match_score(
+pub fn yilgashe_match_score(
     objective: MatchObjective,
     proposed: ProposedMatch,
     queue: Queue,
@@ -136,8 +130,7 @@ pub extern "C" fn yilgashe_match_score(
 }
 
 // The objective's value for the match, without its weight.
-#[unsafe(no_mangle)]
-pub extern "C" fn yilgashe_soft_value(
+pub fn yilgashe_soft_value(
     kind: u8,
     weight: f64,
     proposed: ProposedMatch,
@@ -155,8 +148,7 @@ pub extern "C" fn yilgashe_soft_value(
     in_numbers(soft_of(kind, weight).value(proposed, ids, ratings))
 }
 
-#[unsafe(no_mangle)]
-pub extern "C" fn yilgashe_soft_score(
+pub fn yilgashe_soft_score(
     objectives: SoftObjectives,
     proposed: ProposedMatch,
     ids: &[u64],
@@ -174,35 +166,25 @@ pub extern "C" fn yilgashe_soft_score(
     in_numbers(objective::soft::soft_score(softs, objectives.len, proposed, ids, ratings))
 }
 
-#[unsafe(no_mangle)]
-pub extern "C" fn yilgashe_vector_scalarize(
-    vector: MatchObjectiveVector,
-    weights: ObjectiveWeights,
-) -> f64
+pub fn yilgashe_vector_scalarize(vector: MatchObjectiveVector, weights: ObjectiveWeights) -> f64
     ensures { result ≡ scalarized weights vector }
 {
     vector.scalarize(weights)
 }
 
-#[unsafe(no_mangle)]
-pub extern "C" fn yilgashe_vector_dominates(
-    vector: MatchObjectiveVector,
-    other: MatchObjectiveVector,
-) -> bool
+pub fn yilgashe_vector_dominates(vector: MatchObjectiveVector, other: MatchObjectiveVector) -> bool
     ensures { result ≡ dominates_of vector other }
 {
     vector.dominates(other)
 }
 
-#[unsafe(no_mangle)]
-pub extern "C" fn yilgashe_vector_default() -> MatchObjectiveVector
+pub fn yilgashe_vector_default() -> MatchObjectiveVector
     ensures { result ≡ zeros }
 {
     MatchObjectiveVector::default()
 }
 
-#[unsafe(no_mangle)]
-pub extern "C" fn yilgashe_weights_default() -> ObjectiveWeights
+pub fn yilgashe_weights_default() -> ObjectiveWeights
     ensures { result ≡ default_weights }
 {
     ObjectiveWeights::default()

@@ -41,8 +41,7 @@ pub(crate) fn in_numbers(formed: seating::Formed) -> Formed
     }
 }
 
-#[unsafe(no_mangle)]
-pub extern "C" fn yilgashe_search_greedy(
+pub fn yilgashe_search_greedy(
     queue: Queue,
     sizes: TeamComposition,
     ids: &[u64],
@@ -55,8 +54,7 @@ pub extern "C" fn yilgashe_search_greedy(
     in_numbers(GreedySearch::search(queue, sizes, ids, ratings, players, qualities))
 }
 
-#[unsafe(no_mangle)]
-pub extern "C" fn yilgashe_search_beam(
+pub fn yilgashe_search_beam(
     search: BeamSearch,
     queue: Queue,
     sizes: TeamComposition,
@@ -75,8 +73,7 @@ pub extern "C" fn yilgashe_search_beam(
     ))
 }
 
-#[unsafe(no_mangle)]
-pub extern "C" fn yilgashe_generate_nearest(
+pub fn yilgashe_generate_nearest(
     generator: GreedyNearestGenerator,
     queue: Queue,
     sizes: TeamComposition,
@@ -90,8 +87,7 @@ pub extern "C" fn yilgashe_generate_nearest(
     in_numbers(generator.generate_candidates(queue, sizes, ids, ratings, players, qualities))
 }
 
-#[unsafe(no_mangle)]
-pub extern "C" fn yilgashe_generate_exhaustive(
+pub fn yilgashe_generate_exhaustive(
     queue: Queue,
     sizes: TeamComposition,
     players: &mut [u64],

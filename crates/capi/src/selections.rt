@@ -52,8 +52,7 @@ fn selected_numbers(selected: selection::Selected) -> Selected
     }
 }
 
-#[unsafe(no_mangle)]
-pub extern "C" fn yilgashe_select_greedy(
+pub fn yilgashe_select_greedy(
     objectives: SoftObjectives,
     candidates: Candidates,
     ids: &[u64],
@@ -71,8 +70,7 @@ pub extern "C" fn yilgashe_select_greedy(
     selected_numbers(selection::greedy::select(softs, count, items, n, ids, ratings))
 }
 
-#[unsafe(no_mangle)]
-pub extern "C" fn yilgashe_select_threshold(
+pub fn yilgashe_select_threshold(
     minimum: f64,
     objectives: SoftObjectives,
     candidates: Candidates,
@@ -91,8 +89,7 @@ pub extern "C" fn yilgashe_select_threshold(
     selected_numbers(selection::threshold::select(minimum, softs, count, items, n, ids, ratings))
 }
 
-#[unsafe(no_mangle)]
-pub extern "C" fn yilgashe_select_lexicographic(
+pub fn yilgashe_select_lexicographic(
     objectives: SoftObjectives,
     candidates: Candidates,
     ids: &[u64],
@@ -110,8 +107,7 @@ pub extern "C" fn yilgashe_select_lexicographic(
     selected_numbers(selection::lexicographic::select(softs, count, items, n, ids, ratings))
 }
 
-#[unsafe(no_mangle)]
-pub extern "C" fn yilgashe_select_weighted(
+pub fn yilgashe_select_weighted(
     weights: ObjectiveWeights,
     candidates: Candidates,
     ids: &[u64],
