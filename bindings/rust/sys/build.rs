@@ -13,7 +13,7 @@ fn main() {
     println!("cargo:rerun-if-changed={}", library.display());
     if !library.is_file() {
         let message = format!(
-            "no {}; build it with `rt staticlib capi`, or set YILGASHE_LIB to the folder that holds libcapi.a (a full path)",
+            "no {}; build it with `bindings/build`, or set YILGASHE_LIB to the folder that holds libcapi.a (a full path)",
             library.display()
         );
         eprintln!("{message}");

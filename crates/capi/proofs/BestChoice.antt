@@ -11,7 +11,6 @@ use Rattle.seating.specs.Seating.{lineup}
 use Rattle.choice.specs.Full.{Selection, choice_by, choice_of}
 use Rattle.choice.specs.declared.Choice.{Choice}
 use Rattle.choice.specs.declared.Decision.{Decision}
-use Rattle.choice.specs.declared.Decision.TheVariants as Decision
 use Rattle.capi.specs.FullRounds.{ChoiceNumbers}
 use Rattle.capi.specs.declared.rounds.Chosen.{Chosen}
 

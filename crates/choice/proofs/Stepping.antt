@@ -20,7 +20,6 @@ use Rattle.seating.specs.Steps.{Scored}
 use Rattle.candidate.specs.Walks.{through}
 use Rattle.choice.specs.declared.Choice.{Choice}
 use Rattle.choice.specs.declared.Decision.{Decision}
-use Rattle.choice.specs.declared.Decision.TheVariants as Decision
 use Rattle.choice.specs.Full.{Terms, Selection, chosen, choice_by, ChoiceParts}
 use Rattle.choice.specs.Steps.{SoFar, or_better, unweighed, passed, skipped, weighed, concluding}
 use Rattle.choice.proofs.Weighing.{best_plain}

@@ -28,7 +28,6 @@ use Rattle.matchmaker.specs.Quality.{MatchState, seated, quality_of}
 use Rattle.objective.specs.declared.score.MatchObjective.{MatchObjective}
 use Rattle.seating.specs.declared.TeamComposition.{TeamComposition}
 use Rattle.seating.specs.declared.Formed.{Formed}
-use Rattle.seating.specs.declared.Formed.TheVariants as Formed
 use Rattle.seating.specs.Seating.{Sheets, HandedOut, sizes_over, seats_of, are_short, seats, handed_out, leaving}
 use Rattle.seating.specs.Searching.{search_check}
 use Rattle.seating.proofs.Laws.{length_seats}

@@ -1,12 +1,10 @@
 -- One place after another; the first that is not idle decides.
-use Prim.Native.Nat.{◌+◌}
-use mathlib.Core.Path.{◌≡◌, refl, ap, ◌∙◌}
+use mathlib.Core.Path.{refl, ap, ◌∙◌}
 use mathlib.Core.Bool.{◌&&◌}
 use native.Mathlib.Omega.{arith}
 use lib.Ieee.{Float, lt}
 use lib.ListN.{take}
-use borrow.Author.Rules.{rules}
-use Rattle.choice.specs.Sums.{score_by, idle_at, idle_from}
+use Rattle.choice.specs.Sums.{score_by, idle_at}
 use Rattle.choice.specs.declared.Sums.{Sums}
 use Rattle.choice.proofs.Idle.{idle_not, idle_on, idle_end}
 use Rattle.choice.proofs.are_idle.Goals as goal

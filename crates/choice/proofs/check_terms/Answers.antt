@@ -1,6 +1,5 @@
 -- The limits, the columns and the pairs, in this order.
 use mathlib.Core.Path.{sym, ◌∙◌}
-use borrow.Author.Rules.{rules}
 use borrow.Author.Tests.{lt-ltb, le-ltb}
 use Rattle.base.proofs.Checks.{by_first, by_second}
 use Rattle.roster.specs.Roster.{of_rules}

@@ -1,6 +1,5 @@
 -- Refusal 5, or the best where one was found, or nothing.
 use mathlib.Core.Path.{refl}
-use borrow.Author.Rules.{rules}
 use Rattle.matchmaker.specs.Quality.{match_of}
 use Rattle.choice.proofs.Stepping.{concludes_refused, concludes_chosen, concludes_nothing, parts_by, parts_nothing, parts_chosen}
 use Rattle.choice.proofs.concluded.Goals as goal

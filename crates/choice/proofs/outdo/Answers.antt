@@ -1,6 +1,5 @@
 -- One more that passed: the best stays where it was found and scores higher.
 use mathlib.Core.Path.{refl}
-use borrow.Author.Rules.{rules}
 use Rattle.matchmaker.specs.Quality.{match_of}
 use Rattle.seating.specs.Steps.{Scored}
 use Rattle.choice.proofs.Stepping.{stays, outdone, one_passed}

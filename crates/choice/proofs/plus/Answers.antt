@@ -1,5 +1,4 @@
 -- The rating is added where there is a row.
-use borrow.Author.Rules.{rules}
 use Rattle.choice.proofs.plus.Goals as goal
 
 pub returns-then-row : goal.returns-then-row

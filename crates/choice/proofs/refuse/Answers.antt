@@ -1,5 +1,4 @@
 -- Nobody is chosen, and nothing tried.
-use borrow.Author.Rules.{rules}
 use Rattle.choice.proofs.Stepping.{parts_refused}
 use Rattle.choice.proofs.refuse.Goals as goal
 

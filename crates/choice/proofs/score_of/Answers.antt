@@ -1,6 +1,5 @@
 -- The score of what the calls read.
 use mathlib.Core.Path.{◌∙◌}
-use borrow.Author.Rules.{rules}
 use Rattle.choice.specs.Sums.{score_by}
 use Rattle.choice.proofs.score_of.Goals as goal
 

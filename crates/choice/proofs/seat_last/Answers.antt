@@ -5,7 +5,6 @@ use mathlib.Core.Bool.{false}
 use native.Mathlib.Omega.{arith}
 use lib.Ieee.{nan}
 use lib.ListN.{length, take, get_or}
-use borrow.Author.Rules.{rules}
 use Rattle.matchmaker.specs.Quality.{MatchState, match_of, seated}
 use Rattle.seating.specs.Seating.{seats_of}
 use Rattle.candidate.specs.Walks.{seated_next}
@@ -18,7 +17,7 @@ use Rattle.choice.specs.declared.Sums.{Sums}
 use Rattle.choice.proofs.Stepping.{tried_either}
 use Rattle.choice.proofs.Summing.{grown_read, last_score, idle_skipped}
 use Rattle.choice.proofs.Lasting.{ways_one, last_next}
-use Rattle.choice.proofs.Onward.{whole_weighed, next_sums, next_tally, Onward, onward_end}
+use Rattle.choice.proofs.Onward.{whole_weighed, next_sums, next_tally, onward_end}
 use Rattle.choice.proofs.seat_last.Goals as goal
 
 pub loop-left-init : goal.loop-left-init

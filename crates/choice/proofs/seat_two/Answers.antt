@@ -4,10 +4,8 @@ use mathlib.Core.Path.{◌≡◌, refl, ap, ◌∙◌}
 use mathlib.Core.Bool.{false}
 use native.Mathlib.Omega.{arith}
 use lib.ListN.{length, get_or, length-append}
-use borrow.Author.Rules.{rules}
 use Rattle.matchmaker.specs.Quality.{MatchState, match_of, seated}
 use Rattle.seating.specs.Seating.{seats_of}
-use Rattle.candidate.specs.Choices.{ways}
 use Rattle.candidate.specs.Walks.{seated_next}
 use Rattle.candidate.proofs.Walking.{ways_short, ways_step, seat_more}
 use Rattle.choice.specs.Full.{terms}
@@ -15,7 +13,7 @@ use Rattle.choice.specs.Reading.{Columns, columns}
 use Rattle.choice.specs.Steps.{SoFar, so_far_of, weighed}
 use Rattle.choice.proofs.Lasting.{ways_one, walk_next}
 use Rattle.choice.proofs.Idle.{short_by_two, two_idle}
-use Rattle.choice.proofs.Onward.{counts_with, next_sums, next_tally, Onward, onward_end}
+use Rattle.choice.proofs.Onward.{counts_with, next_sums, next_tally, onward_end}
 use Rattle.choice.proofs.seat_two.Goals as goal
 
 pub is_a_short_by_two-second-requires : goal.is_a_short_by_two-second-requires

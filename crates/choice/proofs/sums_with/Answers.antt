@@ -1,5 +1,4 @@
 -- The player joins A, or B.
-use borrow.Author.Rules.{rules}
 use Rattle.choice.specs.Sums.{sums_with}
 use Rattle.choice.proofs.sums_with.Goals as goal
 

@@ -1,5 +1,4 @@
 -- One more that passes is weighed against the best by its score; one that does not pass is only counted.
-use borrow.Author.Rules.{rules}
 use Rattle.choice.proofs.weigh.Goals as goal
 
 pub returns-then-passes : goal.returns-then-passes

@@ -1,12 +1,8 @@
 -- An array filled: what stands at the places so far.
 use Prim.Native.Nat.{◌-◌, ◌≤◌}
-use mathlib.Core.Path.{◌≡◌, refl}
+use mathlib.Core.Path.{◌≡◌}
 use mathlib.Core.List.{map}
-use native.Mathlib.Omega.{arith}
-use lib.ListN.{length, take, get_or, length-set}
-use Rattle.base.proofs.Arrays.{fill_on, fill_end}
-use Rattle.base.proofs.All.{place_below}
-use borrow.Author.Rules.{rules}
+use lib.ListN.{length, take, get_or}
 use Rattle.greedy.proofs.arrange_players.Given as goal
 
 abbrev pub invariant-loop-k : goal.invariant-loop-k

@@ -1,10 +1,8 @@
 -- An array filled: what stands at the places so far.
-use Prim.Native.Nat.{◌-◌, ◌≤◌}
-use mathlib.Core.Path.{◌≡◌, refl}
-use mathlib.Core.List.{map}
+use mathlib.Core.Path.{refl}
 use native.Mathlib.Omega.{arith}
 use lib.Ieee.{nan}
-use lib.ListN.{length, take, get_or, length-set}
+use lib.ListN.{get_or, length-set}
 use Rattle.base.proofs.Arrays.{fill_on, fill_end}
 use Rattle.base.proofs.All.{place_below}
 use borrow.Author.Rules.{rules}

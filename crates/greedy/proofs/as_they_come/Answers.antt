@@ -1,8 +1,7 @@
 -- An array filled: the first i places.
-use Prim.Native.Nat.{◌-◌, ◌≤◌}
-use mathlib.Core.Path.{◌≡◌, refl}
+use mathlib.Core.Path.{refl}
 use native.Mathlib.Omega.{arith}
-use lib.ListN.{length, take, length-set}
+use lib.ListN.{length-set}
 use Rattle.base.specs.Lists.{places_from}
 use Rattle.base.proofs.Places.{filled_on, filled_end}
 use borrow.Author.Rules.{rules}

@@ -1,11 +1,8 @@
 -- An array filled: the first i places.
 use Prim.Native.Nat.{◌-◌, ◌≤◌}
-use mathlib.Core.Path.{◌≡◌, refl}
-use native.Mathlib.Omega.{arith}
-use lib.ListN.{length, take, length-set}
+use mathlib.Core.Path.{◌≡◌}
+use lib.ListN.{length, take}
 use Rattle.base.specs.Lists.{places_from}
-use Rattle.base.proofs.Places.{filled_on, filled_end}
-use borrow.Author.Rules.{rules}
 use Rattle.greedy.proofs.as_they_come.Given as goal
 
 abbrev pub invariant-loop-i : goal.invariant-loop-i

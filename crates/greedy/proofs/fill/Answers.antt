@@ -1,10 +1,10 @@
 -- What is left to fill still gives the whole, and the column of those who are free goes with the marks.
 use Prim.Native.Nat.{ℕ}
-use mathlib.Core.Path.{◌≡◌, refl, ap, ◌∙◌}
-use lib.ListN.{length, take, get_or}
+use mathlib.Core.Path.{refl, ap, ◌∙◌}
+use lib.ListN.{take, get_or}
 use Rattle.seating.specs.Turns.{seats_left}
 use Rattle.seating.proofs.TurnLaws.{held_whole}
-use Rattle.greedy.specs.Steps.{columns, Fill, fill_of, free_of, filling}
+use Rattle.greedy.specs.Steps.{columns, Fill, fill_of, filling}
 use Rattle.greedy.proofs.Laws.{fills_end, fills_none, fills_on, pick_used}
 use Rattle.greedy.proofs.Free.{whole_free, still_free, nearest_free_lem}
 use borrow.Author.Rules.{rules}

@@ -1,13 +1,7 @@
 -- What is left to fill still gives the whole, and the column of those who are free goes with the marks.
-use Prim.Native.Nat.{ℕ}
-use mathlib.Core.Path.{◌≡◌, refl, ap, ◌∙◌}
-use lib.ListN.{length, take, get_or}
-use Rattle.seating.specs.Turns.{seats_left}
-use Rattle.seating.proofs.TurnLaws.{held_whole}
-use Rattle.greedy.specs.Steps.{columns, Fill, fill_of, free_of, filling}
-use Rattle.greedy.proofs.Laws.{fills_end, fills_none, fills_on, pick_used}
-use Rattle.greedy.proofs.Free.{whole_free, still_free, nearest_free_lem}
-use borrow.Author.Rules.{rules}
+use mathlib.Core.Path.{◌≡◌}
+use lib.ListN.{length, take}
+use Rattle.greedy.specs.Steps.{columns, fill_of, free_of, filling}
 use Rattle.greedy.proofs.fill.Given as goal
 
 abbrev pub invariant-loop-left : goal.invariant-loop-left

@@ -4,7 +4,6 @@ use Rattle.matchmaker.specs.Quality.{match_of}
 use Rattle.seating.proofs.Laws.{lent}
 use Rattle.greedy.specs.Steps.{paper_of}
 use Rattle.greedy.proofs.Papers.{form_none, form_one}
-use borrow.Author.Rules.{rules}
 use Rattle.greedy.proofs.form.Goals as goal
 
 pub returns-then-not-is_complete : goal.returns-then-not-is_complete

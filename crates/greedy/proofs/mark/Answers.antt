@@ -1,13 +1,12 @@
 -- The marks so far, with what the rest still gives, and the same of who is free.
-use Prim.Native.Nat.{◌-◌, ◌≤◌, ◌<◌}
+use Prim.Native.Nat.{◌<◌}
 use mathlib.Core.Path.{◌≡◌, refl, ap, ◌∙◌}
 use mathlib.Core.Bool.{true, false}
-use mathlib.Core.List.{◌++◌}
 use native.Mathlib.Omega.{arith}
 use borrow.Author.Tests.{eq-eqb, ne_eqb}
 use lib.Ieee.{Float, nan}
 use lib.Dec.{eqb}
-use lib.ListN.{length, take, drop, get_or, length-set}
+use lib.ListN.{length, take, get_or, length-set}
 use lib.Seq.{get_or-take, length-take-le}
 use Rattle.greedy.specs.Steps.{struck}
 use Rattle.base.proofs.Nan.{zero_by_zero}

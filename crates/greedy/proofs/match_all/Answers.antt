@@ -1,13 +1,13 @@
 -- The marks and the sheets so far are what that many anchors make, and the column of those who are free goes with the marks.
-use Prim.Native.Nat.{◌+◌, ◌-◌, ◌≤◌}
-use mathlib.Core.Path.{◌≡◌, refl}
+use Prim.Native.Nat.{◌+◌, ◌≤◌}
+use mathlib.Core.Path.{refl}
 use native.Mathlib.Omega.{arith}
-use lib.ListN.{length, take}
+use lib.ListN.{take}
 use Rattle.base.proofs.All.{place_below}
 use Rattle.roster.specs.Roster.{of_ratings}
-use Rattle.greedy.specs.Steps.{columns, fill_of, free_of, paper_of}
+use Rattle.greedy.specs.Steps.{columns, fill_of, paper_of}
 use Rattle.greedy.proofs.Free.{free_all}
-use Rattle.greedy.proofs.Papers.{Reached, reached_none, reached_used, reached_filled, reached_end, reached_room, reached_space, reached_long}
+use Rattle.greedy.proofs.Papers.{reached_none, reached_used, reached_filled, reached_end, reached_room, reached_space, reached_long}
 use borrow.Author.Rules.{rules}
 use Rattle.greedy.proofs.match_all.Goals as goal
 

@@ -1,14 +1,10 @@
 -- The marks and the sheets so far are what that many anchors make, and the column of those who are free goes with the marks.
-use Prim.Native.Nat.{◌+◌, ◌-◌, ◌≤◌}
-use mathlib.Core.Path.{◌≡◌, refl}
-use native.Mathlib.Omega.{arith}
+use Prim.Native.Nat.{◌-◌, ◌≤◌}
+use mathlib.Core.Path.{◌≡◌}
 use lib.ListN.{length, take}
-use Rattle.base.proofs.All.{place_below}
 use Rattle.roster.specs.Roster.{of_ratings}
-use Rattle.greedy.specs.Steps.{columns, fill_of, free_of, paper_of}
-use Rattle.greedy.proofs.Free.{free_all}
-use Rattle.greedy.proofs.Papers.{Reached, reached_none, reached_used, reached_filled, reached_end, reached_room, reached_space, reached_long}
-use borrow.Author.Rules.{rules}
+use Rattle.greedy.specs.Steps.{columns, free_of, paper_of}
+use Rattle.greedy.proofs.Papers.{Reached}
 use Rattle.greedy.proofs.match_all.Given as goal
 
 abbrev pub invariant-loop-i : goal.invariant-loop-i

@@ -1,7 +1,6 @@
 -- The two answers are the definition's.
 use Rattle.greedy.specs.Steps.{near_of}
 use Rattle.greedy.proofs.Laws.{near_kept, near_left}
-use borrow.Author.Rules.{rules}
 use Rattle.greedy.proofs.nearer.Goals as goal
 
 pub returns-then-distance-best : goal.returns-then-distance-best

@@ -7,7 +7,6 @@ use lib.Seq.{get_or-take}
 use Rattle.seating.specs.Turns.{alone}
 use Rattle.greedy.specs.Steps.{columns, struck, marked}
 use Rattle.greedy.proofs.Laws.{opens}
-use borrow.Author.Rules.{rules}
 use Rattle.greedy.proofs.open.Goals as goal
 
 pub returns : goal.returns

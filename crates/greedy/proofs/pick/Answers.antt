@@ -10,7 +10,6 @@ use Rattle.seating.specs.Turns.{grown}
 use Rattle.seating.proofs.TurnLaws.{held_whole}
 use Rattle.greedy.specs.Steps.{fill_of, struck, marked}
 use Rattle.greedy.proofs.Laws.{picks_a, picks_b}
-use borrow.Author.Rules.{rules}
 use Rattle.greedy.proofs.pick.Goals as goal
 
 pub returns-then-takes_a : goal.returns-then-takes_a

@@ -1,13 +1,8 @@
 -- Each run so far is what that many turns make, and the two find what one would.
-use Prim.Native.Nat.{◌-◌, ◌/◌, ◌≤◌}
-use mathlib.Core.Path.{◌≡◌, ◌∙◌}
-use native.Mathlib.Omega.{arith}
+use Prim.Native.Nat.{◌-◌, ◌≤◌}
+use mathlib.Core.Path.{◌≡◌}
 use Rattle.base.specs.Lists.{times}
-use Rattle.base.proofs.Loops.{times_on}
 use Rattle.greedy.specs.Steps.{nobody_of, near_of, nearer_free, nearer_from}
-use Rattle.base.proofs.Nan.{one_by_zero}
-use Rattle.greedy.proofs.Runs.{found_even, found_odd}
-use borrow.Author.Rules.{rules}
 use Rattle.greedy.proofs.pick_nearest.Given as goal
 
 abbrev pub invariant-loop-i : goal.invariant-loop-i

@@ -1,13 +1,9 @@
 -- Three arrays filled: what the entries so far have.
 use Prim.Native.Nat.{◌-◌, ◌≤◌}
-use mathlib.Core.Path.{◌≡◌, refl}
+use mathlib.Core.Path.{◌≡◌}
 use mathlib.Core.List.{map}
-use native.Mathlib.Omega.{arith}
-use lib.ListN.{length, take, length-set}
-use Rattle.base.proofs.Arrays.{unmapped, fill_on, fill_end}
+use lib.ListN.{length, take}
 use Rattle.queue.specs.declared.QueueEntry.{QueueEntry}
-use Rattle.queue.specs.Columns.{no_entry}
-use borrow.Author.Rules.{rules}
 use Rattle.greedy.proofs.read.Given as goal
 
 abbrev pub invariant-loop-i : goal.invariant-loop-i

@@ -1,5 +1,4 @@
 -- By the tests, in their order.
-use borrow.Author.Rules.{rules}
 use mathlib.Core.Path.{sym, ◌∙◌}
 use borrow.Author.Tests.{lt-ltb, le-ltb}
 use Rattle.hall.specs.Hall.{booking_answer}

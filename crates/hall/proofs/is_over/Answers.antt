@@ -1,5 +1,4 @@
 -- The first limit, the second, or else those of the games.
-use borrow.Author.Rules.{rules}
 use borrow.Author.Tests.{lt-ltb, le-ltb}
 use Rattle.hall.proofs.is_over.Goals as goal
 

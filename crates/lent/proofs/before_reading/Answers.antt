@@ -1,5 +1,4 @@
 -- The refusals by their tests.
-use borrow.Author.Rules.{rules}
 use borrow.Author.Tests.{lt-ltb, le-ltb}
 use mathlib.Core.Path.{sym, ◌∙◌}
 use Rattle.lent.proofs.before_reading.Goals as goal

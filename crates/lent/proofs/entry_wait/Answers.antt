@@ -1,5 +1,4 @@
 -- By the entry's two tests.
-use borrow.Author.Rules.{rules}
 use borrow.Author.Tests.{eq-eqb, ne_eqb}
 use mathlib.Core.Path.{sym, ◌∙◌}
 use Rattle.lent.proofs.entry_wait.Goals as goal

@@ -1,5 +1,4 @@
 -- What the two calls give, one in the other.
-use borrow.Author.Rules.{rules}
 use mathlib.Core.Path.{◌∙◌, ap}
 use Rattle.queue.specs.Queue.{wait_of}
 use Rattle.lent.specs.Reading.{followed}

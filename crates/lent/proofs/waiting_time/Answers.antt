@@ -1,5 +1,5 @@
 -- The walk over the list that is lent gives what the rule of the waiting time says.
-use Rattle.std.proofs.Common.{◌≡◌, ◌≤◌, sym, ◌∙◌, arith}
+use Rattle.std.proofs.Common.{sym, ◌∙◌, arith}
 use Rattle.base.proofs.Loops.{fold_on_of, fold_end_of}
 use Rattle.queue.specs.Columns.{no_entry}
 use Rattle.queue.specs.Queue.{wait_of}

@@ -1,5 +1,4 @@
 -- `matchmaker::add_observed` meets its contract: one arm adds, the other leaves the sum.
-use Rattle.std.proofs.Common.{rules}
 use Rattle.matchmaker.proofs.add_observed.Goals as goal
 
 pub returns-in-Of : goal.returns-in-Of

@@ -1,5 +1,4 @@
 -- `matchmaker::add_player` meets its contract, by those of the two it calls.
-use Rattle.std.proofs.Common.{rules}
 use Rattle.matchmaker.proofs.add_player.Goals as goal
 
 pub returns : goal.returns

@@ -1,6 +1,5 @@
 -- `matchmaker::add_rows` meets its contract: the sum so far with the rest of the rows makes the whole sum.
-use Rattle.std.proofs.Common.{◌≡◌, ℕ, ◌-◌, ◌≤◌, List, length, drop, sym, refl, ap, ◌∙◌, arith, rules}
-use mathlib.Core.List.{foldl}
+use Rattle.std.proofs.Common.{ℕ, List, sym, refl, ap, ◌∙◌, arith}
 use lib.Ieee.{Float, binary64, add}
 use Rattle.base.proofs.Loops.{fold_on, fold_end}
 use Rattle.roster.specs.Rows.{value_at}

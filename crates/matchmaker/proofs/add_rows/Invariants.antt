@@ -1,11 +1,9 @@
 -- `matchmaker::add_rows` meets its contract: the sum so far with the rest of the rows makes the whole sum.
-use Rattle.std.proofs.Common.{◌≡◌, ℕ, ◌-◌, ◌≤◌, List, length, drop, sym, refl, ap, ◌∙◌, arith, rules}
+use Rattle.std.proofs.Common.{◌≡◌, ℕ, ◌-◌, ◌≤◌, List, length, drop}
 use mathlib.Core.List.{foldl}
 use lib.Ieee.{Float, binary64, add}
-use Rattle.base.proofs.Loops.{fold_on, fold_end}
 use Rattle.roster.specs.Rows.{value_at}
 use Rattle.matchmaker.specs.Steps.{absorb}
-use Rattle.matchmaker.proofs.Laws.{fold_observations}
 use Rattle.matchmaker.proofs.add_rows.Given as goal
 
 -- one row's part in the sum

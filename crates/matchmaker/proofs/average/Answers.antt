@@ -1,5 +1,5 @@
 -- `matchmaker::average` meets its contract: the divisor is the length, or 1 where that is 0.
-use Rattle.std.proofs.Common.{◌≡◌, max, ⊎_elim, arith, rules}
+use Rattle.std.proofs.Common.{◌≡◌, max, arith}
 use Rattle.matchmaker.proofs.Laws.{averaged}
 use Rattle.matchmaker.proofs.average.Goals as goal
 use Rattle.matchmaker.proofs.average.Goals.{then-seats-eq0, else-seats-eq0}

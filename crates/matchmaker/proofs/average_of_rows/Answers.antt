@@ -1,5 +1,4 @@
 -- `matchmaker::average_of_rows` meets its contract, by those of the two it calls.
-use Rattle.std.proofs.Common.{rules}
 use Rattle.matchmaker.proofs.average_of_rows.Goals as goal
 
 pub returns : goal.returns

@@ -1,5 +1,5 @@
 -- `matchmaker::quality_between` meets its contract: its tests tell how far apart the averages are, and the laws what quality is there.
-use Rattle.std.proofs.Common.{sym, rules}
+use Rattle.std.proofs.Common.{sym}
 use Rattle.matchmaker.proofs.FarApart.{near, far, tested_near, tested_above, tested_below}
 use Rattle.matchmaker.proofs.quality_between.Goals as goal
 

@@ -1,10 +1,9 @@
 -- The limits, the refusals of the columns and of the pairs, then the score or minus infinity.
 use mathlib.Core.Path.{sym, ◌∙◌}
 use native.Mathlib.Omega.{arith}
-use borrow.Author.Tests.{lt-ltb, le-ltb, not-true, not-false}
+use borrow.Author.Tests.{lt-ltb, le-ltb}
 use Rattle.base.proofs.Checks.{guard_refuses, guard_passes, at_limit, under_limit, by_first, by_second}
 use Rattle.policy.proofs.Laws.{violated, satisfied}
-use borrow.Author.Rules.{rules}
 use Rattle.policy.proofs.score.Goals as goal
 
 pub returns-then-is_overfull : goal.returns-then-is_overfull

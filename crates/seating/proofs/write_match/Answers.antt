@@ -3,7 +3,6 @@ use Prim.Native.Nat.{ℕ, min}
 use mathlib.Core.Path.{ap, ◌∙◌}
 use lib.ListN.{length, take}
 use Rattle.seating.proofs.Laws.{lent_second}
-use borrow.Author.Rules.{rules}
 use Rattle.seating.proofs.write_match.Goals as goal
 
 pub returns : goal.returns

@@ -1,13 +1,8 @@
 -- `seating::write_qualities` meets its contract. A copy from the front: so many of the qualities, and the sheet beyond.
-use Prim.Native.Nat.{◌-◌, ◌≤◌, min}
-use mathlib.Core.Path.{◌≡◌, ◌∙◌}
+use Prim.Native.Nat.{◌-◌, ◌≤◌}
+use mathlib.Core.Path.{◌≡◌}
 use mathlib.Core.List.{◌++◌}
-use native.Mathlib.Omega.{arith}
-use lib.Ieee.{nan}
-use lib.ListN.{length, take, drop, length-take, length-set}
-use Rattle.base.proofs.Sheets.{copy_on}
-use Rattle.seating.proofs.Laws.{copied}
-use borrow.Author.Rules.{rules}
+use lib.ListN.{length, take, drop}
 use Rattle.seating.proofs.write_qualities.Given as goal
 
 abbrev pub invariant-loop-i : goal.invariant-loop-i

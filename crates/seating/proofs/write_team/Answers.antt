@@ -1,9 +1,8 @@
 -- `seating::write_team` meets its contract. A copy from the front: so many of the players, and the sheet beyond.
-use Prim.Native.Nat.{◌-◌, ◌≤◌, min}
+use Prim.Native.Nat.{min}
 use mathlib.Core.Path.{◌≡◌, refl, ◌∙◌}
-use mathlib.Core.List.{◌++◌}
 use native.Mathlib.Omega.{arith}
-use lib.ListN.{length, take, drop, length-set}
+use lib.ListN.{length, take, length-set}
 use Rattle.base.proofs.Arrays.{unmapped, held_fits}
 use Rattle.base.proofs.Sheets.{copy_on}
 use Rattle.seating.proofs.Laws.{copied}

@@ -1,14 +1,9 @@
 -- A search: what is left still tells whether a team is over 8.
 use Prim.Native.Nat.{◌-◌, ◌≤◌}
-use mathlib.Core.Path.{◌≡◌, sym, ◌∙◌}
-use mathlib.Core.Bool.{true, false}
-use native.Mathlib.Omega.{arith}
+use mathlib.Core.Path.{◌≡◌}
 use lib.ListN.{take, drop}
 use Rattle.base.specs.Lists.{any}
-use Rattle.base.proofs.Loops.{seek_hit_of, seek_on_of, seek_end_of}
 use Rattle.matchmaker.specs.Quality.{match_of, overfull}
-use Rattle.selection.proofs.Laws.{any_map}
-use borrow.Author.Rules.{rules}
 use Rattle.selection.proofs.any_overfull.Given as goal
 
 abbrev pub invariant-loop-i : goal.invariant-loop-i

@@ -2,16 +2,15 @@
 use Rattle.objective.specs.declared.soft.SoftObjective.{SoftObjective}
 use Rattle.matchmaker.specs.declared.ProposedMatch.{ProposedMatch}
 use lib.Ieee.{Float}
-use Prim.Native.Nat.{ℕ, ◌-◌, ◌≤◌}
+use Prim.Native.Nat.{ℕ}
 use mathlib.Core.Path.{◌≡◌, sym, ap, ◌∙◌}
 use mathlib.Core.List.{map, List, map-map}
 use native.Mathlib.Omega.{arith}
-use lib.ListN.{length, take, length-set}
+use lib.ListN.{take, length-set}
 use Rattle.base.proofs.Arrays.{fill_on}
 use Rattle.roster.specs.Roster.{of_ratings}
 use Rattle.matchmaker.specs.Quality.{match_of}
 use Rattle.objective.specs.Soft.{soft_score_of}
-use borrow.Author.Rules.{rules}
 use Rattle.selection.proofs.scores.Goals as goal
 
 -- the score of a candidate

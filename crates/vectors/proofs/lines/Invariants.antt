@@ -1,5 +1,5 @@
 -- `vectors::lines` is safe and ends. Each line ends further on than it starts.
-use Rattle.std.proofs.Common.{◌-◌, ◌≤◌, length, rules}
+use Rattle.std.proofs.Common.{◌-◌, ◌≤◌, length}
 use Rattle.vectors.proofs.lines.Given as goal
 
 abbrev pub invariant-loop-at : goal.invariant-loop-at

@@ -1,5 +1,4 @@
 -- Team A has fewer than its size, and the player joins it; or joins team B.
-use borrow.Author.Rules.{rules}
 use Rattle.matchmaker.specs.Quality.{match_of}
 use Rattle.candidate.proofs.Walking.{seat_in_a, seat_in_b}
 use Rattle.candidate.proofs.exhaustive.seat.Goals as goal

@@ -1,7 +1,6 @@
 -- The rising order of the ratings that were read.
 use mathlib.Core.Path.{ap, ◌∙◌}
 use Rattle.ranking.specs.Order.{rising_rule}
-use borrow.Author.Rules.{rules}
 use Rattle.candidate.proofs.nearest.by_rating.Goals as goal
 
 pub returns : goal.returns

@@ -1,11 +1,10 @@
 -- The matches counted and those that the players left fill are all; each takes a player at least.
-use Prim.Native.Nat.{ℕ, ◌+◌, ◌-◌, ◌≤◌}
+use Prim.Native.Nat.{ℕ, ◌+◌, ◌-◌}
 use mathlib.Core.Path.{◌≡◌, ap, ◌∙◌}
 use native.Mathlib.Nat.{zero-add}
 use native.Mathlib.Omega.{arith}
 use Rattle.candidate.specs.Steps.{how_many}
 use Rattle.candidate.proofs.Laws.{many_on, many_full, many_end}
-use borrow.Author.Rules.{rules}
 use Rattle.candidate.proofs.nearest.matches_of.Goals as goal
 
 pub loop-left-init : goal.loop-left-init

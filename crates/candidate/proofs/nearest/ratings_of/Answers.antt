@@ -1,11 +1,9 @@
 -- The rows of the players are found, and what is written so far are the ratings in the first of them.
-use Prim.Native.Nat.{◌-◌, ◌≤◌}
 use mathlib.Core.Path.{◌≡◌, sym, ap, ◌∙◌}
-use mathlib.Core.List.{map}
 use mathlib.Core.Option.{Option, get_or}
 use native.Mathlib.Omega.{arith}
 use lib.Ieee.{Float}
-use lib.ListN.{length, take, replicate, length-set}
+use lib.ListN.{length, replicate, length-set}
 use lib.Seq.{length-take-le}
 use Rattle.base.proofs.Arrays.{fill_on, unmapped}
 use Rattle.candidate.specs.Nearest.{thousand}

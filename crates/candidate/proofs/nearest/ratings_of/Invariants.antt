@@ -1,16 +1,9 @@
 -- The rows of the players are found, and what is written so far are the ratings in the first of them.
 use Prim.Native.Nat.{◌-◌, ◌≤◌}
-use mathlib.Core.Path.{◌≡◌, sym, ap, ◌∙◌}
+use mathlib.Core.Path.{◌≡◌}
 use mathlib.Core.List.{map}
-use mathlib.Core.Option.{Option, get_or}
-use native.Mathlib.Omega.{arith}
-use lib.Ieee.{Float}
-use lib.ListN.{length, take, replicate, length-set}
-use lib.Seq.{length-take-le}
-use Rattle.base.proofs.Arrays.{fill_on, unmapped}
-use Rattle.candidate.specs.Nearest.{thousand}
-use Rattle.candidate.proofs.Laws.{rating_in, ratings_read}
-use borrow.Author.Rules.{rules}
+use lib.ListN.{length, take}
+use Rattle.candidate.proofs.Laws.{rating_in}
 use Rattle.candidate.proofs.nearest.ratings_of.Given as goal
 
 abbrev pub invariant-loop-i : goal.invariant-loop-i

@@ -1,11 +1,7 @@
 -- A copy from the front of the part: the players at the places from `at` on, and the part beyond.
-use Prim.Native.Nat.{◌-◌, ◌≤◌}
-use mathlib.Core.Path.{◌≡◌}
-use mathlib.Core.List.{◌++◌}
 use native.Mathlib.Omega.{arith}
-use lib.ListN.{length, take, drop, length-set}
-use Rattle.candidate.proofs.Laws.{at_places, seat_below, seat_on, seat_end}
-use borrow.Author.Rules.{rules}
+use lib.ListN.{length-set}
+use Rattle.candidate.proofs.Laws.{seat_below, seat_on, seat_end}
 use Rattle.candidate.proofs.nearest.write_match.Goals as goal
 
 pub offset_bounds-waiting-places : goal.offset_bounds-waiting-places

@@ -2,10 +2,8 @@
 use Prim.Native.Nat.{◌-◌, ◌≤◌}
 use mathlib.Core.Path.{◌≡◌}
 use mathlib.Core.List.{◌++◌}
-use native.Mathlib.Omega.{arith}
-use lib.ListN.{length, take, drop, length-set}
-use Rattle.candidate.proofs.Laws.{at_places, seat_below, seat_on, seat_end}
-use borrow.Author.Rules.{rules}
+use lib.ListN.{length, take, drop}
+use Rattle.candidate.proofs.Laws.{at_places}
 use Rattle.candidate.proofs.nearest.write_match.Given as goal
 
 abbrev pub invariant-loop-i : goal.invariant-loop-i

@@ -1,12 +1,9 @@
 -- What stands on the sheet is the row of the matches so far; each turn lends the rest of the sheet for one match more.
-use Prim.Native.Nat.{ℕ, ◌*◌, ◌-◌, ◌≤◌, ◌<◌}
-use mathlib.Core.Path.{◌≡◌, ap, ◌∙◌}
-use native.Mathlib.Omega.{arith}
-use lib.ListN.{length, length-take, length-drop}
+use Prim.Native.Nat.{◌*◌, ◌-◌, ◌≤◌}
+use mathlib.Core.Path.{◌≡◌}
+use lib.ListN.{length}
 use Rattle.seating.specs.Steps.{overlaid}
-use Rattle.seating.proofs.Laws.{length_overlaid}
-use Rattle.candidate.proofs.Laws.{at_places, all_part, match_on, match_fits, match_counts}
-use borrow.Author.Rules.{rules}
+use Rattle.candidate.proofs.Laws.{at_places}
 use Rattle.candidate.proofs.nearest.write_matches.Given as goal
 
 abbrev pub invariant-loop-i : goal.invariant-loop-i

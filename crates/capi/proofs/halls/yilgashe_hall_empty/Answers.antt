@@ -1,5 +1,4 @@
 -- Nothing is in the first 0 places.
-use borrow.Author.Rules.{rules}
 use mathlib.Core.Path.{refl}
 use Rattle.hall.specs.Hall.{paired}
 use Rattle.capi.proofs.halls.yilgashe_hall_empty.Goals as goal

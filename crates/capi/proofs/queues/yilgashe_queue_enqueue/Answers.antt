@@ -2,7 +2,6 @@
 use mathlib.Core.Path.{ap, ◌∙◌}
 use Rattle.queue.specs.Queue.{Enqueuing}
 use Rattle.base.specs.Numbers.{refusal_of}
-use borrow.Author.Rules.{rules}
 use Rattle.capi.proofs.queues.yilgashe_queue_enqueue.Goals as goal
 
 pub returns : goal.returns

@@ -4,7 +4,6 @@ use Rattle.queue.specs.Queue.{Removing, taken_of}
 use Rattle.base.specs.Numbers.{refusal_of}
 use Rattle.capi.specs.Numbers.{found_in, found_or}
 use Rattle.capi.specs.Queues.{blank_entry}
-use borrow.Author.Rules.{rules}
 use Rattle.capi.proofs.queues.yilgashe_queue_remove.Goals as goal
 
 pub returns-in-Refused : goal.returns-in-Refused

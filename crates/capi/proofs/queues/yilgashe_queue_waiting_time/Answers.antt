@@ -3,7 +3,6 @@ use mathlib.Core.Path.{sym, ap, ◌∙◌}
 use Rattle.queue.specs.Queue.{wait_of}
 use mathlib.Core.Bool.{false}
 use Rattle.capi.specs.Queues.{wait_numbers}
-use borrow.Author.Rules.{rules}
 use Rattle.capi.proofs.queues.yilgashe_queue_waiting_time.Goals as goal
 
 pub returns-in-Refused : goal.returns-in-Refused

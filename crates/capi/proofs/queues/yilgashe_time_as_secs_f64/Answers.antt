@@ -3,7 +3,6 @@ use mathlib.Core.Path.{sym, ap, ◌∙◌}
 use Rattle.base.specs.Floats.{zero}
 use Rattle.queue.specs.Time.{seconds_given}
 use Rattle.capi.specs.Queues.{seconds_numbers}
-use borrow.Author.Rules.{rules}
 use Rattle.capi.proofs.queues.yilgashe_time_as_secs_f64.Goals as goal
 
 pub returns-in-Refused : goal.returns-in-Refused

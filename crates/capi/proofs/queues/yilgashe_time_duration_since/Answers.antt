@@ -2,7 +2,6 @@
 use mathlib.Core.Path.{sym, ap, ◌∙◌}
 use Rattle.queue.specs.Time.{duration_of}
 use Rattle.capi.specs.Queues.{duration_numbers}
-use borrow.Author.Rules.{rules}
 use Rattle.capi.proofs.queues.yilgashe_time_duration_since.Goals as goal
 
 pub returns-in-Refused : goal.returns-in-Refused

@@ -1,7 +1,6 @@
 -- The number of the check's answer.
 use mathlib.Core.Path.{ap, ◌∙◌}
 use Rattle.base.specs.Numbers.{refusal_of}
-use borrow.Author.Rules.{rules}
 use Rattle.capi.proofs.rosters.yilgashe_roster_check.Goals as goal
 
 pub returns : goal.returns

@@ -1,7 +1,6 @@
 -- Each answer, in numbers.
 use mathlib.Core.Path.{◌∙◌}
 use Rattle.capi.proofs.BestChoice.{choice_refused, choice_nothing, choice_found}
-use borrow.Author.Rules.{rules}
 use Rattle.capi.proofs.rounds.in_numbers.Goals as goal
 
 pub returns-in-Refused : goal.returns-in-Refused

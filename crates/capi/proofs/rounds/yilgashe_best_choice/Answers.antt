@@ -11,7 +11,6 @@ use Rattle.choice.specs.Full.{Selection, terms, choice_rule}
 use Rattle.capi.specs.FullRounds.{ChoiceNumbers}
 use Rattle.capi.specs.Rules.{constraints_of}
 use Rattle.capi.proofs.BestChoice.{none_chosen}
-use borrow.Author.Rules.{rules}
 use Rattle.capi.proofs.rounds.yilgashe_best_choice.Goals as goal
 
 pub returns-then-has_no_kind : goal.returns-then-has_no_kind

@@ -1,5 +1,4 @@
 -- The roles are made anew, the rest crosses as it is.
-use borrow.Author.Rules.{rules}
 use Rattle.capi.proofs.rules.constraints_of.Goals as goal
 
 pub returns : goal.returns

@@ -1,9 +1,7 @@
 -- Each turn writes one requirement behind those before it.
-use Prim.Native.Nat.{◌-◌, ◌≤◌}
 use mathlib.Core.Path.{◌≡◌, refl}
-use mathlib.Core.List.{◌++◌, map}
 use native.Mathlib.Omega.{arith}
-use lib.ListN.{length, take, drop, length-set}
+use lib.ListN.{length, length-set}
 use Rattle.base.proofs.Arrays.{unmapped}
 use Rattle.capi.specs.Rules.{requirement_of}
 use Rattle.capi.proofs.Maps.{map_on, map_end}

@@ -1,13 +1,9 @@
 -- Each turn writes one requirement behind those before it.
 use Prim.Native.Nat.{◌-◌, ◌≤◌}
-use mathlib.Core.Path.{◌≡◌, refl}
+use mathlib.Core.Path.{◌≡◌}
 use mathlib.Core.List.{◌++◌, map}
-use native.Mathlib.Omega.{arith}
-use lib.ListN.{length, take, drop, length-set}
-use Rattle.base.proofs.Arrays.{unmapped}
+use lib.ListN.{length, take, drop}
 use Rattle.capi.specs.Rules.{requirement_of}
-use Rattle.capi.proofs.Maps.{map_on, map_end}
-use borrow.Author.Rules.{rules}
 use Rattle.capi.proofs.rules.roles_of.Given as goal
 
 abbrev pub invariant-loop-i : goal.invariant-loop-i

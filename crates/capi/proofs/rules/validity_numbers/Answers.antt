@@ -2,7 +2,6 @@
 use mathlib.Core.Path.{sym, ap, ◌∙◌}
 use Rattle.constraint.specs.Refusing.{validity_of}
 use Rattle.capi.specs.Rules.{validity_numbers}
-use borrow.Author.Rules.{rules}
 use Rattle.capi.proofs.rules.validity_numbers.Goals as goal
 
 pub returns-in-Refused : goal.returns-in-Refused

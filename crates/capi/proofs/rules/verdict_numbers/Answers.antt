@@ -3,7 +3,6 @@ use mathlib.Core.Path.{sym, ap, ◌∙◌}
 use mathlib.Core.Bool.{false}
 use Rattle.constraint.specs.Refusing.{verdict_of}
 use Rattle.capi.specs.Rules.{verdict_numbers}
-use borrow.Author.Rules.{rules}
 use Rattle.capi.proofs.rules.verdict_numbers.Goals as goal
 
 pub returns-in-Refused : goal.returns-in-Refused

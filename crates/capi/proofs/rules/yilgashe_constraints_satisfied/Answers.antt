@@ -5,7 +5,6 @@ use Rattle.matchmaker.specs.Quality.{match_of}
 use Rattle.constraint.specs.Refusing.{constraints_rule}
 use Rattle.constraint.specs.declared.Constraints.{Constraints}
 use Rattle.capi.specs.Rules.{verdict_numbers}
-use borrow.Author.Rules.{rules}
 use Rattle.capi.proofs.rules.yilgashe_constraints_satisfied.Goals as goal
 
 pub returns : goal.returns

@@ -1,7 +1,6 @@
 -- The verdict, in numbers.
 use mathlib.Core.Path.{ap, ◌∙◌}
 use Rattle.capi.specs.Rules.{verdict_numbers}
-use borrow.Author.Rules.{rules}
 use Rattle.capi.proofs.rules.yilgashe_parties_satisfied.Goals as goal
 
 pub returns : goal.returns

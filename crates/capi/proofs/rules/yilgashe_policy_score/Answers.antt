@@ -8,7 +8,6 @@ use Rattle.constraint.specs.declared.Constraints.{Constraints}
 use Rattle.policy.specs.Policy.{policy_score_rule}
 use Rattle.capi.specs.Scores.{scored_numbers}
 use Rattle.capi.specs.Rules.{constraints_of}
-use borrow.Author.Rules.{rules}
 use Rattle.capi.proofs.rules.yilgashe_policy_score.Goals as goal
 
 pub returns-then-has_no_kind : goal.returns-then-has_no_kind

@@ -5,7 +5,6 @@ use Rattle.matchmaker.specs.Quality.{match_of}
 use Rattle.constraint.specs.Refusing.{roles_rule}
 use Rattle.constraint.specs.declared.roles.RoleConstraint.{RoleConstraint}
 use Rattle.capi.specs.Rules.{verdict_numbers}
-use borrow.Author.Rules.{rules}
 use Rattle.capi.proofs.rules.yilgashe_roles_satisfied.Goals as goal
 
 pub returns : goal.returns

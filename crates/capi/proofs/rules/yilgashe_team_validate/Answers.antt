@@ -5,7 +5,6 @@ use Rattle.matchmaker.specs.Quality.{team_of}
 use Rattle.constraint.specs.Refusing.{validate_rule}
 use Rattle.constraint.specs.declared.roles.RoleConstraint.{RoleConstraint}
 use Rattle.capi.specs.Rules.{validity_numbers}
-use borrow.Author.Rules.{rules}
 use Rattle.capi.proofs.rules.yilgashe_team_validate.Goals as goal
 
 pub returns : goal.returns

@@ -3,7 +3,6 @@ use mathlib.Core.Path.{sym, ap, ◌∙◌}
 use Rattle.base.specs.Floats.{zero}
 use Rattle.objective.specs.Score.{score_given}
 use Rattle.capi.specs.Scores.{scored_numbers}
-use borrow.Author.Rules.{rules}
 use Rattle.capi.proofs.scores.in_numbers.Goals as goal
 
 pub returns-in-Refused : goal.returns-in-Refused

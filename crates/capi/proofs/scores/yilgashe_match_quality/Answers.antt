@@ -3,7 +3,6 @@ use mathlib.Core.Path.{sym, ap, ◌∙◌}
 use Rattle.base.specs.Floats.{zero}
 use Rattle.matchmaker.specs.Quality.{quality_given}
 use Rattle.capi.specs.Scores.{scored_numbers}
-use borrow.Author.Rules.{rules}
 use Rattle.capi.proofs.scores.yilgashe_match_quality.Goals as goal
 
 pub returns-in-Refused : goal.returns-in-Refused

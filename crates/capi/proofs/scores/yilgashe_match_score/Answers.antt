@@ -1,7 +1,6 @@
 -- The score, in numbers.
 use mathlib.Core.Path.{ap, ◌∙◌}
 use Rattle.capi.specs.Scores.{scored_numbers}
-use borrow.Author.Rules.{rules}
 use Rattle.capi.proofs.scores.yilgashe_match_score.Goals as goal
 
 pub returns : goal.returns

@@ -6,7 +6,6 @@ use Rattle.matchmaker.specs.Quality.{match_of}
 use Rattle.objective.specs.Soft.{soft_value_rule}
 use Rattle.objective.specs.declared.soft.SoftObjective.{SoftObjective}
 use Rattle.capi.specs.Scores.{scored_numbers}
-use borrow.Author.Rules.{rules}
 use Rattle.capi.proofs.scores.yilgashe_soft_value.Goals as goal
 
 pub returns-then-kind-gt2 : goal.returns-then-kind-gt2

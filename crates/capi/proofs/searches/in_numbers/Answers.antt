@@ -2,7 +2,6 @@
 use mathlib.Core.Path.{sym, ap, ◌∙◌}
 use Rattle.seating.specs.Seating.{formed_of}
 use Rattle.capi.specs.Searches.{formed_numbers}
-use borrow.Author.Rules.{rules}
 use Rattle.capi.proofs.searches.in_numbers.Goals as goal
 
 pub returns-in-Refused : goal.returns-in-Refused

@@ -2,7 +2,6 @@
 use mathlib.Core.Path.{ap, ◌∙◌}
 use Rattle.seating.specs.Seating.{HandedOut}
 use Rattle.capi.specs.Searches.{formed_numbers}
-use borrow.Author.Rules.{rules}
 use Rattle.capi.proofs.searches.yilgashe_generate_nearest.Goals as goal
 
 pub returns : goal.returns

@@ -7,7 +7,6 @@ use Rattle.selection.specs.Selection.{SelectedState, threshold_rule}
 use Rattle.capi.specs.Scores.{softs_of}
 use Rattle.capi.specs.Selections.{candidates_in}
 use Rattle.capi.proofs.Choices.{by_rule, kinds_pass, kind_refused}
-use borrow.Author.Rules.{rules}
 use Rattle.capi.proofs.selections.yilgashe_select_threshold.Goals as goal
 
 pub returns-then-has_no_kind : goal.returns-then-has_no_kind

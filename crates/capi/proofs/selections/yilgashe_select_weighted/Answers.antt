@@ -2,7 +2,6 @@
 use mathlib.Core.Path.{ap}
 use Rattle.selection.specs.Selection.{SelectedState}
 use Rattle.capi.proofs.Choices.{by_rule}
-use borrow.Author.Rules.{rules}
 use Rattle.capi.proofs.selections.yilgashe_select_weighted.Goals as goal
 
 pub returns : goal.returns

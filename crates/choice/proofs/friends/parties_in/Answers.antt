@@ -2,9 +2,7 @@
 use borrow.Author.Rules.{rules}
 use native.Mathlib.Omega.{arith}
 use mathlib.Core.Path.{◌≡◌, refl}
-use mathlib.Core.List.{map}
-use Prim.Native.Nat.{◌-◌, ◌≤◌}
-use lib.ListN.{length, take, length-set}
+use lib.ListN.{length, length-set}
 use Rattle.base.proofs.Arrays.{fill_on, filled, unmapped}
 use Rattle.queue.specs.Columns.{no_entry}
 use Rattle.queue.specs.declared.QueueEntry.{QueueEntry}

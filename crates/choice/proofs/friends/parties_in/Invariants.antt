@@ -1,12 +1,8 @@
 -- An array filled: what is written are the parties of the first entries.
-use borrow.Author.Rules.{rules}
-use native.Mathlib.Omega.{arith}
-use mathlib.Core.Path.{◌≡◌, refl}
+use mathlib.Core.Path.{◌≡◌}
 use mathlib.Core.List.{map}
 use Prim.Native.Nat.{◌-◌, ◌≤◌}
-use lib.ListN.{length, take, length-set}
-use Rattle.base.proofs.Arrays.{fill_on, filled, unmapped}
-use Rattle.queue.specs.Columns.{no_entry}
+use lib.ListN.{length, take}
 use Rattle.queue.specs.declared.QueueEntry.{QueueEntry}
 use Rattle.choice.proofs.friends.parties_in.Given as goal
 

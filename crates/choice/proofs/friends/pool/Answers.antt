@@ -1,11 +1,7 @@
 -- The sets of the guest's places from i on.
-use Prim.Native.Nat.{◌≤◌}
-use mathlib.Core.Path.{◌≡◌, refl}
+use mathlib.Core.Path.{refl}
 use native.Mathlib.Omega.{arith}
-use lib.ListN.{take, drop}
-use Rattle.choice.specs.Reading.{pooled}
 use Rattle.choice.proofs.Marking.{pooled_start, pooled_on, pooled_end}
-use borrow.Author.Rules.{rules}
 use Rattle.choice.proofs.friends.pool.Goals as goal
 
 pub loop-i-init : goal.loop-i-init

@@ -1,11 +1,8 @@
 -- The sets of the guest's places from i on.
 use Prim.Native.Nat.{◌≤◌}
-use mathlib.Core.Path.{◌≡◌, refl}
-use native.Mathlib.Omega.{arith}
+use mathlib.Core.Path.{◌≡◌}
 use lib.ListN.{take, drop}
 use Rattle.choice.specs.Reading.{pooled}
-use Rattle.choice.proofs.Marking.{pooled_start, pooled_on, pooled_end}
-use borrow.Author.Rules.{rules}
 use Rattle.choice.proofs.friends.pool.Given as goal
 
 abbrev pub invariant-loop-i : goal.invariant-loop-i

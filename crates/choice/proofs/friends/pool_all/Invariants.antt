@@ -1,12 +1,9 @@
 -- Each place so far has the sets of its guest's places too, and the others are as they were.
 use Prim.Native.Nat.{ℕ, ◌-◌, ◌≤◌, ◌<◌}
-use mathlib.Core.Path.{◌≡◌, refl, ap}
-use native.Mathlib.Omega.{arith}
+use mathlib.Core.Path.{◌≡◌}
 use lib.Bits.{bit_or}
-use lib.ListN.{length, take, get_or, length-set}
-use Rattle.base.proofs.Arrays.{made_on, made_rest}
+use lib.ListN.{length, take, get_or}
 use Rattle.choice.specs.Reading.{pooled}
-use borrow.Author.Rules.{rules}
 use Rattle.choice.proofs.friends.pool_all.Given as goal
 
 abbrev pub invariant-loop-i : goal.invariant-loop-i

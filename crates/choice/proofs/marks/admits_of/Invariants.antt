@@ -1,17 +1,13 @@
 -- Who of the places so far may be seated.
 use Prim.Native.Nat.{ℕ, ◌-◌, ◌≤◌}
-use mathlib.Core.Path.{◌≡◌, refl, ap, ◌∙◌}
+use mathlib.Core.Path.{◌≡◌}
 use mathlib.Core.Bool.{Bool, not, cond, ◌&&◌, ◌||◌}
 use mathlib.Core.List.{List, map}
-use native.Mathlib.Omega.{arith}
 use lib.Ieee.{Float}
-use lib.ListN.{length, take, length-set}
-use lib.Seq.{take_all}
-use Rattle.base.proofs.Arrays.{fill_on, fill_end}
+use lib.ListN.{length, take}
 use Rattle.roster.specs.Roster.{of_ratings, of_parties, rating_of, party_of}
 use Rattle.constraint.specs.declared.Brought.{Brought}
 use Rattle.constraint.specs.Constraints.{above_zero, party_together}
-use borrow.Author.Rules.{rules}
 use Rattle.choice.proofs.marks.admits_of.Given as goal
 
 -- may the player be seated?

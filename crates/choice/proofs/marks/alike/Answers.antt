@@ -1,12 +1,7 @@
 -- The set of the places from i on.
-use Prim.Native.Nat.{◌≤◌}
-use mathlib.Core.Path.{◌≡◌}
 use native.Mathlib.Omega.{arith}
 use lib.Dec.{eqb}
-use lib.ListN.{take, drop}
-use Rattle.choice.specs.Reading.{marks}
 use Rattle.choice.proofs.Marking.{marks_start, marks_fit, marks_on, marks_end}
-use borrow.Author.Rules.{rules}
 use Rattle.choice.proofs.marks.alike.Goals as goal
 
 pub loop-i-init : goal.loop-i-init

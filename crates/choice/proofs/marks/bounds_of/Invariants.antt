@@ -1,15 +1,10 @@
 -- The limits of the requirements from i on.
 use Prim.Native.Nat.{ℕ, ◌≤◌}
-use mathlib.Core.Path.{◌≡◌, refl}
+use mathlib.Core.Path.{◌≡◌}
 use mathlib.Core.List.{map}
-use native.Mathlib.Omega.{arith}
 use lib.ListN.{length, take, drop}
-use Rattle.base.proofs.Arrays.{unmapped, held_fits}
 use Rattle.constraint.specs.declared.roles.RoleRequirement.{RoleRequirement}
-use Rattle.constraint.specs.Constraints.{requirements_of}
 use Rattle.choice.specs.Reading.{packed, capped, most_of}
-use Rattle.choice.proofs.Packing.{packed_start, packed_fit, packed_room, packed_on, packed_end, capped_low, most_low, bounds_made}
-use borrow.Author.Rules.{rules}
 use Rattle.choice.proofs.marks.bounds_of.Given as goal
 
 -- the least of a requirement, as a digit

@@ -1,7 +1,6 @@
 -- The limit is capped.
 use mathlib.Core.Path.{◌∙◌, sym, ap}
 use Rattle.choice.specs.Reading.{most_of}
-use borrow.Author.Rules.{rules}
 use Rattle.choice.proofs.marks.cap_of.Goals as goal
 
 pub returns-in-AtMost : goal.returns-in-AtMost

@@ -2,13 +2,11 @@
 use Prim.Native.Nat.{ℕ, ◌≤◌}
 use mathlib.Core.Path.{◌≡◌, refl, sym}
 use mathlib.Core.Bool.{not, cond, ◌&&◌}
-use mathlib.Core.List.{map}
 use native.Mathlib.Omega.{arith}
 use lib.Dec.{eqb}
-use lib.ListN.{length, take, drop}
+use lib.ListN.{length, take}
 use Rattle.base.proofs.Arrays.{unmapped, held_fits}
 use Rattle.constraint.specs.declared.roles.RoleRequirement.{RoleRequirement}
-use Rattle.choice.specs.Reading.{packed}
 use Rattle.choice.proofs.MarkLaws.{digit_small}
 use Rattle.choice.proofs.Packing.{packed_start, packed_fit, packed_room, packed_on, packed_end, packed_ones}
 use borrow.Author.Rules.{rules}

@@ -1,17 +1,14 @@
 -- The counts of the requirements from i on.
 use Prim.Native.Nat.{ℕ, ◌≤◌}
-use mathlib.Core.Path.{◌≡◌, refl, sym}
+use mathlib.Core.Path.{◌≡◌}
 use mathlib.Core.Bool.{not, cond, ◌&&◌}
 use mathlib.Core.List.{map}
 use native.Mathlib.Omega.{arith}
 use lib.Dec.{eqb}
 use lib.ListN.{length, take, drop}
-use Rattle.base.proofs.Arrays.{unmapped, held_fits}
 use Rattle.constraint.specs.declared.roles.RoleRequirement.{RoleRequirement}
 use Rattle.choice.specs.Reading.{packed}
 use Rattle.choice.proofs.MarkLaws.{digit_small}
-use Rattle.choice.proofs.Packing.{packed_start, packed_fit, packed_room, packed_on, packed_end, packed_ones}
-use borrow.Author.Rules.{rules}
 use Rattle.choice.proofs.marks.counted.Given as goal
 
 -- 1 where the role counts for the requirement

@@ -1,9 +1,8 @@
 -- The counts of each place so far, all small.
-use Prim.Native.Nat.{ℕ, ◌-◌, ◌≤◌}
-use mathlib.Core.Path.{◌≡◌, refl, ◌∙◌}
+use mathlib.Core.Path.{refl, ◌∙◌}
 use mathlib.Core.List.{map}
 use native.Mathlib.Omega.{arith}
-use lib.ListN.{length, take, get_or, length-set}
+use lib.ListN.{length-set}
 use Rattle.base.proofs.Arrays.{fill_on, fill_end}
 use Rattle.roster.specs.Roster.{of_roles}
 use Rattle.constraint.specs.Constraints.{requirements_of}

@@ -1,15 +1,11 @@
 -- The counts of each place so far, all small.
 use Prim.Native.Nat.{ℕ, ◌-◌, ◌≤◌}
-use mathlib.Core.Path.{◌≡◌, refl, ◌∙◌}
+use mathlib.Core.Path.{◌≡◌}
 use mathlib.Core.List.{map}
-use native.Mathlib.Omega.{arith}
-use lib.ListN.{length, take, get_or, length-set}
-use Rattle.base.proofs.Arrays.{fill_on, fill_end}
+use lib.ListN.{length, take, get_or}
 use Rattle.roster.specs.Roster.{of_roles}
 use Rattle.constraint.specs.Constraints.{requirements_of}
 use Rattle.choice.specs.Reading.{packed, one_each, counts_for}
-use Rattle.choice.proofs.Packing.{low_start, low_on}
-use borrow.Author.Rules.{rules}
 use Rattle.choice.proofs.marks.counts_of.Given as goal
 
 abbrev pub invariant-loop-i : goal.invariant-loop-i

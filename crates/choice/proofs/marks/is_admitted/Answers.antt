@@ -1,8 +1,5 @@
 -- One test after the other.
 use mathlib.Core.Path.{sym, ◌∙◌}
-use mathlib.Core.Logic.{⊎_elim}
-use borrow.Author.Tests.{not-true, not-false}
-use borrow.Author.Rules.{rules}
 use Rattle.choice.proofs.marks.is_admitted.Goals as goal
 use Rattle.choice.proofs.marks.is_admitted.Goals.{then-brought+else-not-is_above_zero, else-brought}
 

@@ -1,6 +1,5 @@
 -- The test decides the new digit.
 use native.Mathlib.Omega.{arith}
-use borrow.Author.Rules.{rules}
 use Rattle.choice.proofs.marks.marked_next.Goals as goal
 
 pub returns-then-is : goal.returns-then-is

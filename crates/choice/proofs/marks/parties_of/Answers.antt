@@ -1,10 +1,8 @@
 -- The party of each place so far.
-use Prim.Native.Nat.{◌-◌, ◌≤◌}
-use mathlib.Core.Path.{◌≡◌, refl}
+use mathlib.Core.Path.{refl}
 use mathlib.Core.Bool.{cond}
-use mathlib.Core.List.{map}
 use native.Mathlib.Omega.{arith}
-use lib.ListN.{length, take, length-set}
+use lib.ListN.{length-set}
 use Rattle.base.proofs.Arrays.{fill_on, fill_end}
 use Rattle.roster.specs.Roster.{of_parties, party_of}
 use borrow.Author.Rules.{rules}

@@ -3,7 +3,6 @@ use mathlib.Core.Path.{sym, ◌∙◌}
 use mathlib.Core.Bool.{false}
 use borrow.Author.Tests.{eq-eqb, ne_eqb}
 use Rattle.choice.proofs.MarkLaws.{marks_never, marks_alike}
-use borrow.Author.Rules.{rules}
 use Rattle.choice.proofs.marks.partners.Goals as goal
 
 pub returns-then-party-eq0 : goal.returns-then-party-eq0

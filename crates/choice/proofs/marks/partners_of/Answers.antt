@@ -1,11 +1,9 @@
 -- The places of the same party, for each place so far.
 use mathlib.Core.Bool.{not, ◌&&◌}
-use Prim.Native.Nat.{◌-◌, ◌≤◌}
-use mathlib.Core.Path.{◌≡◌, refl}
-use mathlib.Core.List.{map}
+use mathlib.Core.Path.{refl}
 use native.Mathlib.Omega.{arith}
 use lib.Dec.{eqb}
-use lib.ListN.{length, take, length-set}
+use lib.ListN.{take, length-set}
 use Rattle.base.proofs.Arrays.{fill_on, fill_end}
 use Rattle.choice.specs.Reading.{marks}
 use borrow.Author.Rules.{rules}

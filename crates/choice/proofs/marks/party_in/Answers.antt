@@ -1,5 +1,4 @@
 -- The roster tells the party.
-use borrow.Author.Rules.{rules}
 use Rattle.choice.proofs.marks.party_in.Goals as goal
 
 pub returns-then-brought : goal.returns-then-brought

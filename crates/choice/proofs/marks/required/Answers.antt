@@ -1,5 +1,4 @@
 -- All requirements, or none.
-use borrow.Author.Rules.{rules}
 use Rattle.choice.proofs.marks.required.Goals as goal
 
 pub returns-then-brought : goal.returns-then-brought

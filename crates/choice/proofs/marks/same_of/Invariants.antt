@@ -1,13 +1,10 @@
 -- The places of the same player, for each place so far.
 use Prim.Native.Nat.{◌-◌, ◌≤◌}
-use mathlib.Core.Path.{◌≡◌, refl}
+use mathlib.Core.Path.{◌≡◌}
 use mathlib.Core.List.{map}
-use native.Mathlib.Omega.{arith}
 use lib.Dec.{eqb}
-use lib.ListN.{length, take, length-set}
-use Rattle.base.proofs.Arrays.{fill_on, fill_end}
+use lib.ListN.{length, take}
 use Rattle.choice.specs.Reading.{marks}
-use borrow.Author.Rules.{rules}
 use Rattle.choice.proofs.marks.same_of.Given as goal
 
 abbrev pub invariant-loop-i : goal.invariant-loop-i

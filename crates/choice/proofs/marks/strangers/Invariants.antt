@@ -1,13 +1,10 @@
 -- The set of the places from i on.
 use Prim.Native.Nat.{◌≤◌}
-use mathlib.Core.Path.{◌≡◌, ◌∙◌}
+use mathlib.Core.Path.{◌≡◌}
 use mathlib.Core.Bool.{not}
-use native.Mathlib.Omega.{arith}
 use lib.ListN.{take, drop}
 use Rattle.constraint.specs.Constraints.{may_meet, pairs_of}
 use Rattle.choice.specs.Reading.{marks}
-use Rattle.choice.proofs.Marking.{marks_start, marks_fit, marks_on, marks_end}
-use borrow.Author.Rules.{rules}
 use Rattle.choice.proofs.marks.strangers.Given as goal
 
 abbrev pub invariant-loop-i : goal.invariant-loop-i

@@ -1,8 +1,6 @@
 -- The limits that are left decide.
-use mathlib.Core.Path.{◌≡◌, refl}
+use mathlib.Core.Path.{refl}
 use native.Mathlib.Omega.{arith}
-use borrow.Author.Rules.{rules}
-use Rattle.choice.specs.Reading.{in_limits}
 use Rattle.choice.proofs.Limits.{limits_end, limits_few, limits_many, limits_on}
 use Rattle.choice.proofs.tally.are_within.Goals as goal
 

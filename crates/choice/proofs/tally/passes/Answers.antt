@@ -1,5 +1,4 @@
 -- Somebody is not fine, a wanted one is not present, or the counts decide.
-use borrow.Author.Rules.{rules}
 use borrow.Author.Tests.{not-true, not-false, ne_eqb, eq-eqb}
 use lib.Bits.{bit_and}
 use Rattle.choice.specs.Tallies.{fits}

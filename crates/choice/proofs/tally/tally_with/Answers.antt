@@ -1,5 +1,4 @@
 -- The player joins A, or B.
-use borrow.Author.Rules.{rules}
 use Rattle.choice.specs.Tallies.{tally_with}
 use Rattle.choice.proofs.tally.tally_with.Goals as goal
 

@@ -1,6 +1,5 @@
 -- `Constraints::check_pairs` meets its contract: pairs that are not brought pass.
 use borrow.Author.Tests.{not-true, not-false}
-use borrow.Author.Rules.{rules}
 use Rattle.constraint.proofs.Constraints.check_pairs.Goals as goal
 
 pub returns-then-not-brought : goal.returns-then-not-brought

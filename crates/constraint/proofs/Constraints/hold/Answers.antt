@@ -1,7 +1,5 @@
 -- `Constraints::hold` meets its contract: the first kind that fails decides, and else the regions.
 use mathlib.Core.Path.{sym, ◌∙◌}
-use borrow.Author.Tests.{not-true, not-false}
-use borrow.Author.Rules.{rules}
 use Rattle.constraint.proofs.Constraints.hold.Goals as goal
 
 pub returns-then-not-sizes_hold : goal.returns-then-not-sizes_hold

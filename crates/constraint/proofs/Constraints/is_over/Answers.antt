@@ -1,6 +1,5 @@
 -- `Constraints::is_over` meets its contract: the sizes are over, or else the requirements, or else the pairs.
 use mathlib.Core.Path.{sym, ◌∙◌}
-use borrow.Author.Rules.{rules}
 use Rattle.constraint.proofs.Constraints.is_over.Goals as goal
 
 pub returns-then-sizes_over : goal.returns-then-sizes_over

@@ -1,6 +1,5 @@
 -- `Constraints::latency_holds` meets its contract: where this kind is not brought, it holds.
 use borrow.Author.Tests.{not-true, not-false}
-use borrow.Author.Rules.{rules}
 use Rattle.constraint.proofs.Constraints.latency_holds.Goals as goal
 
 pub returns-then-not-brought : goal.returns-then-not-brought

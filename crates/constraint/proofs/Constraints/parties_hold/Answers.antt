@@ -1,6 +1,5 @@
 -- `Constraints::parties_hold` meets its contract: where this kind is not brought, it holds.
 use borrow.Author.Tests.{not-true, not-false}
-use borrow.Author.Rules.{rules}
 use Rattle.constraint.proofs.Constraints.parties_hold.Goals as goal
 
 pub returns-then-not-brought : goal.returns-then-not-brought

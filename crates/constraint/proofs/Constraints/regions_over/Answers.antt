@@ -1,6 +1,5 @@
 -- `Constraints::regions_over` meets its contract: pairs that are not brought are not over.
 use borrow.Author.Tests.{not-true, not-false}
-use borrow.Author.Rules.{rules}
 use Rattle.constraint.proofs.Constraints.regions_over.Goals as goal
 
 pub returns-then-not-brought : goal.returns-then-not-brought

@@ -1,6 +1,5 @@
 -- `Constraints::roles_over` meets its contract: requirements that are not brought are not over.
 use borrow.Author.Tests.{not-true, not-false}
-use borrow.Author.Rules.{rules}
 use Rattle.constraint.proofs.Constraints.roles_over.Goals as goal
 
 pub returns-then-not-brought : goal.returns-then-not-brought

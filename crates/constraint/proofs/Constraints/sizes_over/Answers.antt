@@ -1,6 +1,5 @@
 -- `Constraints::sizes_over` meets its contract: sizes that are not brought are not over.
 use borrow.Author.Tests.{not-true, not-false}
-use borrow.Author.Rules.{rules}
 use Rattle.constraint.proofs.Constraints.sizes_over.Goals as goal
 
 pub returns-then-not-brought : goal.returns-then-not-brought

@@ -1,11 +1,9 @@
 -- `latency::holds` meets its contract: team A decides where it fails, and else team B.
 use mathlib.Core.Path.{sym, ◌∙◌}
-use borrow.Author.Tests.{not-true, not-false}
 use Rattle.roster.specs.Roster.{of_ratings, rating_of}
 use Rattle.matchmaker.specs.Quality.{match_of}
 use Rattle.constraint.specs.Constraints.{above_zero}
 use Rattle.base.proofs.Loops.{every_append}
-use borrow.Author.Rules.{rules}
 use Rattle.constraint.proofs.latency.holds.Goals as goal
 
 pub returns-then-not-is_team_above_zero : goal.returns-then-not-is_team_above_zero

@@ -1,5 +1,4 @@
 -- `latency::is_above_zero` meets its contract: an observed rating must be above 0.0, and nothing passes.
-use borrow.Author.Rules.{rules}
 use Rattle.constraint.proofs.latency.is_above_zero.Goals as goal
 
 pub returns-in-Of : goal.returns-in-Of

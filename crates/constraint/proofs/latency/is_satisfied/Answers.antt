@@ -3,7 +3,6 @@ use mathlib.Core.Path.{sym, ap, ◌∙◌}
 use Rattle.base.specs.Refusals.{gives}
 use Rattle.base.proofs.Checks.{guard_refuses, guard_passes}
 use Rattle.base.proofs.Checks.{at_limit, under_limit}
-use borrow.Author.Rules.{rules}
 use Rattle.constraint.proofs.latency.is_satisfied.Goals as goal
 
 pub returns-then-is_overfull : goal.returns-then-is_overfull

@@ -1,14 +1,10 @@
 -- `latency::is_team_above_zero` meets its contract: the rest of the players decides what all of them decide.
-use Prim.Native.Nat.{ℕ, ◌-◌, ◌≤◌}
 use mathlib.Core.Path.{◌≡◌, refl, sym, ap, ◌∙◌}
-use mathlib.Core.Bool.{Bool, not}
+use mathlib.Core.Bool.{not}
 use native.Mathlib.Omega.{arith}
-use lib.ListN.{length, take, drop}
-use Rattle.base.specs.Lists.{every}
+use lib.ListN.{length}
 use Rattle.base.proofs.Arrays.{unmapped}
 use Rattle.base.proofs.Arrays.{held_fits}
-use Rattle.roster.specs.Roster.{of_ratings, rating_of}
-use Rattle.constraint.specs.Constraints.{above_zero}
 use Rattle.base.proofs.Loops.{held_hit, held_on, held_end}
 use borrow.Author.Rules.{rules}
 use Rattle.constraint.proofs.latency.is_team_above_zero.Goals as goal

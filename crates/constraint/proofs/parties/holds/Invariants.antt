@@ -1,19 +1,11 @@
 -- `parties::holds` meets its contract: the rest of those seated decides what all of them decide.
 use Prim.Native.Nat.{ℕ, ◌-◌, ◌≤◌}
-use mathlib.Core.Path.{◌≡◌, refl, sym, ap, ◌∙◌}
-use mathlib.Core.Bool.{Bool, not}
-use native.Mathlib.Omega.{arith}
-use lib.ListN.{length, take, drop}
-use lib.Seq.{length-take-le}
+use mathlib.Core.Path.{◌≡◌}
+use mathlib.Core.Bool.{Bool}
+use lib.ListN.{take, drop}
 use Rattle.base.specs.Lists.{every}
-use Rattle.base.proofs.Arrays.{unmapped}
-use Rattle.base.proofs.Loops.{seek_hit_of, seek_on_of, seek_end_of}
 use Rattle.roster.specs.Roster.{of_parties, party_of}
-use Rattle.matchmaker.specs.Quality.{match_of}
-use Rattle.matchmaker.proofs.Rows.{seats_fit}
 use Rattle.constraint.specs.Constraints.{party_together}
-use Rattle.constraint.proofs.Meets.{parties_read}
-use borrow.Author.Rules.{rules}
 use Rattle.constraint.proofs.parties.holds.Given as goal
 
 abbrev pub invariant-loop-i : goal.invariant-loop-i

@@ -1,12 +1,7 @@
 -- `parties::is_party_seated` meets its contract: the rest of the rows decides what all of them decide.
-use Prim.Native.Nat.{◌-◌, ◌≤◌}
-use mathlib.Core.Path.{◌≡◌, refl, sym, ◌∙◌}
+use mathlib.Core.Path.{refl, sym, ◌∙◌}
 use native.Mathlib.Omega.{arith}
-use borrow.Author.Tests.{not-true, not-false}
-use lib.ListN.{length, drop}
-use Rattle.constraint.specs.Constraints.{party_seated}
 use Rattle.constraint.proofs.Meets.{seated_end, seated_short, seated_not, seated_on}
-use borrow.Author.Rules.{rules}
 use Rattle.constraint.proofs.parties.is_party_seated.Goals as goal
 
 pub loop-i-init : goal.loop-i-init

@@ -1,12 +1,8 @@
 -- `parties::is_party_seated` meets its contract: the rest of the rows decides what all of them decide.
 use Prim.Native.Nat.{◌-◌, ◌≤◌}
-use mathlib.Core.Path.{◌≡◌, refl, sym, ◌∙◌}
-use native.Mathlib.Omega.{arith}
-use borrow.Author.Tests.{not-true, not-false}
+use mathlib.Core.Path.{◌≡◌}
 use lib.ListN.{length, drop}
 use Rattle.constraint.specs.Constraints.{party_seated}
-use Rattle.constraint.proofs.Meets.{seated_end, seated_short, seated_not, seated_on}
-use borrow.Author.Rules.{rules}
 use Rattle.constraint.proofs.parties.is_party_seated.Given as goal
 
 abbrev pub invariant-loop-i : goal.invariant-loop-i

@@ -1,6 +1,5 @@
 -- `parties::is_whole` meets its contract: party 0 passes, and of another every row must be among the players.
 use borrow.Author.Tests.{eq-eqb, ne_eqb}
-use borrow.Author.Rules.{rules}
 use Rattle.constraint.proofs.parties.is_whole.Goals as goal
 
 pub returns-then-party-eq0 : goal.returns-then-party-eq0

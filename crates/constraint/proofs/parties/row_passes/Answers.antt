@@ -2,7 +2,6 @@
 use mathlib.Core.Path.{sym, ◌∙◌}
 use mathlib.Core.Bool.{not-not}
 use borrow.Author.Tests.{eq-eqb, ne_eqb}
-use borrow.Author.Rules.{rules}
 use Rattle.constraint.proofs.parties.row_passes.Goals as goal
 
 pub returns-then-row-party : goal.returns-then-row-party

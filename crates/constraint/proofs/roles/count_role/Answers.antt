@@ -1,8 +1,7 @@
 -- `roles::count_role` meets its contract: the players counted and those still to count make the count.
-use Prim.Native.Nat.{◌+◌, ◌-◌, ◌≤◌}
 use mathlib.Core.Path.{◌≡◌, sym, ap, ◌∙◌}
 use native.Mathlib.Omega.{arith}
-use lib.ListN.{length, take, drop}
+use lib.ListN.{length}
 use Rattle.base.proofs.Arrays.{unmapped}
 use Rattle.roster.specs.Roster.{of_roles}
 use Rattle.base.proofs.Arrays.{all_held, held_fits}

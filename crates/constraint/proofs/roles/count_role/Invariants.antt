@@ -1,14 +1,9 @@
 -- `roles::count_role` meets its contract: the players counted and those still to count make the count.
 use Prim.Native.Nat.{◌+◌, ◌-◌, ◌≤◌}
-use mathlib.Core.Path.{◌≡◌, sym, ap, ◌∙◌}
-use native.Mathlib.Omega.{arith}
-use lib.ListN.{length, take, drop}
-use Rattle.base.proofs.Arrays.{unmapped}
+use mathlib.Core.Path.{◌≡◌}
+use lib.ListN.{take, drop}
 use Rattle.roster.specs.Roster.{of_roles}
-use Rattle.base.proofs.Arrays.{all_held, held_fits}
-use Rattle.constraint.specs.Constraints.{has_role, role_count}
-use Rattle.base.proofs.Loops.{count_on_of, count_skip_of, count_end_of}
-use borrow.Author.Rules.{rules}
+use Rattle.constraint.specs.Constraints.{role_count}
 use Rattle.constraint.proofs.roles.count_role.Given as goal
 
 abbrev pub invariant-loop-i : goal.invariant-loop-i

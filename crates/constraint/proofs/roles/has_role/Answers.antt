@@ -1,6 +1,5 @@
 -- `roles::has_role` meets its contract: nobody has role 0, and the roster tells of any other.
 use borrow.Author.Tests.{eq-eqb, ne_eqb}
-use borrow.Author.Rules.{rules}
 use Rattle.constraint.proofs.roles.has_role.Goals as goal
 
 pub returns-then-role-eq0 : goal.returns-then-role-eq0

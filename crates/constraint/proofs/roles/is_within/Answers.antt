@@ -1,5 +1,4 @@
 -- `roles::is_within` meets its contract: where there is no maximum any count passes, and else the limit decides.
-use borrow.Author.Rules.{rules}
 use Rattle.constraint.proofs.roles.is_within.Goals as goal
 
 pub returns-in-AtMost : goal.returns-in-AtMost

@@ -1,5 +1,4 @@
 -- `frontdesk::complaints::shown` is safe and ends.
-use Rattle.std.proofs.Common.{◌-◌, length, rules}
 use Rattle.frontdesk.proofs.complaints.shown.Goals as goal
 
 pub loop-i-init : goal.loop-i-init

@@ -1,5 +1,5 @@
 -- `frontdesk::complaints::shown` is safe and ends.
-use Rattle.std.proofs.Common.{◌-◌, length, rules}
+use Rattle.std.proofs.Common.{◌-◌, length}
 use Rattle.frontdesk.proofs.complaints.shown.Given as goal
 
 abbrev pub invariant-loop-i : goal.invariant-loop-i

@@ -1,5 +1,4 @@
 -- `frontdesk::fields::read_all` is safe and ends.
-use Rattle.std.proofs.Common.{rules}
 use Rattle.frontdesk.proofs.fields.read_all.Goals as goal
 
 pub loop-turns-init : goal.loop-turns-init

@@ -1,5 +1,4 @@
 -- `frontdesk::games::list` is safe and ends.
-use Rattle.std.proofs.Common.{◌-◌, rules}
 use Rattle.frontdesk.proofs.games.list.Goals as goal
 
 pub loop-game-init : goal.loop-game-init

@@ -1,5 +1,4 @@
 -- `frontdesk::games::of_guest` is safe and ends.
-use Rattle.std.proofs.Common.{◌-◌, rules}
 use Rattle.frontdesk.proofs.games.of_guest.Goals as goal
 
 pub loop-i-init : goal.loop-i-init

@@ -1,5 +1,5 @@
 -- `frontdesk::games::of_guest` is safe and ends.
-use Rattle.std.proofs.Common.{◌-◌, rules}
+use Rattle.std.proofs.Common.{◌-◌}
 use Rattle.frontdesk.proofs.games.of_guest.Given as goal
 
 abbrev pub invariant-loop-i : goal.invariant-loop-i

@@ -1,5 +1,4 @@
 -- `frontdesk::games::read_all` is safe and ends.
-use Rattle.std.proofs.Common.{rules}
 use Rattle.frontdesk.proofs.games.read_all.Goals as goal
 
 pub loop-turns-init : goal.loop-turns-init

@@ -1,5 +1,4 @@
 -- `frontdesk::games::read_all` is safe and ends.
-use Rattle.std.proofs.Common.{rules}
 use Rattle.frontdesk.proofs.games.read_all.Given as goal
 
 abbrev pub invariant-loop-turns : goal.invariant-loop-turns

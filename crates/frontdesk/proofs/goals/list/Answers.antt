@@ -1,5 +1,4 @@
 -- `frontdesk::goals::list` is safe and ends.
-use Rattle.std.proofs.Common.{◌-◌, rules}
 use Rattle.frontdesk.proofs.goals.list.Goals as goal
 
 pub loop-i-init : goal.loop-i-init

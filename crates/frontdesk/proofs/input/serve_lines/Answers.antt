@@ -1,5 +1,4 @@
 -- `frontdesk::input::serve_lines` is safe and ends.
-use Rattle.std.proofs.Common.{◌-◌, length, rules}
 use Rattle.frontdesk.proofs.input.serve_lines.Goals as goal
 
 pub loop-i-init : goal.loop-i-init

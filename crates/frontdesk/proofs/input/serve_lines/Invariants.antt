@@ -1,5 +1,5 @@
 -- `frontdesk::input::serve_lines` is safe and ends.
-use Rattle.std.proofs.Common.{◌-◌, length, rules}
+use Rattle.std.proofs.Common.{◌-◌, length}
 use Rattle.frontdesk.proofs.input.serve_lines.Given as goal
 
 abbrev pub invariant-loop-i : goal.invariant-loop-i

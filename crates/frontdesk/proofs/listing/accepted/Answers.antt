@@ -1,5 +1,4 @@
 -- `frontdesk::listing::accepted` is safe and ends.
-use Rattle.std.proofs.Common.{◌-◌, rules}
 use Rattle.frontdesk.proofs.listing.accepted.Goals as goal
 
 pub loop-i-init : goal.loop-i-init

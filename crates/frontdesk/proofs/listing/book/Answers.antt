@@ -1,5 +1,4 @@
 -- `frontdesk::listing::book` is safe and ends.
-use Rattle.std.proofs.Common.{◌-◌, rules}
 use Rattle.frontdesk.proofs.listing.book.Goals as goal
 
 pub loop-i-init : goal.loop-i-init

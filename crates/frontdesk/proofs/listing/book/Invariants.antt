@@ -1,5 +1,5 @@
 -- `frontdesk::listing::book` is safe and ends.
-use Rattle.std.proofs.Common.{◌-◌, rules}
+use Rattle.std.proofs.Common.{◌-◌}
 use Rattle.frontdesk.proofs.listing.book.Given as goal
 
 abbrev pub invariant-loop-i : goal.invariant-loop-i

@@ -1,5 +1,4 @@
 -- `frontdesk::listing::each_total` is safe and ends.
-use Rattle.std.proofs.Common.{◌-◌, rules}
 use Rattle.frontdesk.proofs.listing.each_total.Goals as goal
 
 pub loop-game-init : goal.loop-game-init

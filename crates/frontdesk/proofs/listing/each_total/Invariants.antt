@@ -1,5 +1,5 @@
 -- `frontdesk::listing::each_total` is safe and ends.
-use Rattle.std.proofs.Common.{◌-◌, rules}
+use Rattle.std.proofs.Common.{◌-◌}
 use Rattle.frontdesk.proofs.listing.each_total.Given as goal
 
 abbrev pub invariant-loop-game : goal.invariant-loop-game

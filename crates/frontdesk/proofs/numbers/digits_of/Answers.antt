@@ -1,5 +1,4 @@
 -- `frontdesk::numbers::digits_of` is safe and ends.
-use Rattle.std.proofs.Common.{◌-◌, length, rules}
 use Rattle.frontdesk.proofs.numbers.digits_of.Goals as goal
 
 pub loop-i-init : goal.loop-i-init

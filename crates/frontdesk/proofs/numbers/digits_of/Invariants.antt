@@ -1,5 +1,5 @@
 -- `frontdesk::numbers::digits_of` is safe and ends.
-use Rattle.std.proofs.Common.{◌-◌, length, rules}
+use Rattle.std.proofs.Common.{◌-◌, length}
 use Rattle.frontdesk.proofs.numbers.digits_of.Given as goal
 
 abbrev pub invariant-loop-i : goal.invariant-loop-i

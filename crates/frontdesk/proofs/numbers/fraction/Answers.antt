@@ -1,6 +1,6 @@
 -- `frontdesk::numbers::fraction` is safe and ends. What is left over is below the scale, and the scale times a whole part of 10^9
 -- is no more than 10^9.
-use Rattle.std.proofs.Common.{◌/◌, ◌%◌, le_of_lt, mul-le-mul_right, mod-lt, arith, rules}
+use Rattle.std.proofs.Common.{◌/◌, ◌%◌, le_of_lt, mul-le-mul_right, mod-lt, arith}
 use native.Mathlib.Nat.{mul-div-le}
 use Rattle.frontdesk.proofs.numbers.fraction.Goals as goal
 

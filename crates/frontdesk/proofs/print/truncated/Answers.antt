@@ -1,5 +1,5 @@
 -- `frontdesk::print::truncated` is safe and ends. The two tests are what the cast asks.
-use Rattle.std.proofs.Common.{T, sym, subst, rules}
+use Rattle.std.proofs.Common.{T, sym, subst}
 use lib.Ieee.{of_bits, neg}
 use Rattle.frontdesk.proofs.print.truncated.Goals as goal
 

@@ -1,5 +1,4 @@
 -- `frontdesk::rules::list_pairs` is safe and ends.
-use Rattle.std.proofs.Common.{◌-◌, rules}
 use Rattle.frontdesk.proofs.rules.list_pairs.Goals as goal
 
 pub loop-i-init : goal.loop-i-init

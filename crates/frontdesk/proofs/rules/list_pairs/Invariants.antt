@@ -1,5 +1,5 @@
 -- `frontdesk::rules::list_pairs` is safe and ends.
-use Rattle.std.proofs.Common.{◌-◌, rules}
+use Rattle.std.proofs.Common.{◌-◌}
 use Rattle.frontdesk.proofs.rules.list_pairs.Given as goal
 
 abbrev pub invariant-loop-i : goal.invariant-loop-i

@@ -1,5 +1,4 @@
 -- `frontdesk::rules::list_roles` is safe and ends.
-use Rattle.std.proofs.Common.{◌-◌, rules}
 use Rattle.frontdesk.proofs.rules.list_roles.Goals as goal
 
 pub loop-i-init : goal.loop-i-init

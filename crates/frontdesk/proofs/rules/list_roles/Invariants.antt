@@ -1,5 +1,5 @@
 -- `frontdesk::rules::list_roles` is safe and ends.
-use Rattle.std.proofs.Common.{◌-◌, rules}
+use Rattle.std.proofs.Common.{◌-◌}
 use Rattle.frontdesk.proofs.rules.list_roles.Given as goal
 
 abbrev pub invariant-loop-i : goal.invariant-loop-i

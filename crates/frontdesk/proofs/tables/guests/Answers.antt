@@ -1,5 +1,4 @@
 -- `frontdesk::tables::guests` is safe and ends.
-use Rattle.std.proofs.Common.{◌-◌, rules}
 use Rattle.frontdesk.proofs.tables.guests.Goals as goal
 
 pub loop-i-init : goal.loop-i-init

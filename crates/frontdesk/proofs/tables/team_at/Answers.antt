@@ -1,5 +1,4 @@
 -- `frontdesk::tables::team_at` is safe and ends.
-use Rattle.std.proofs.Common.{◌-◌, rules}
 use Rattle.frontdesk.proofs.tables.team_at.Goals as goal
 
 pub loop-i-init : goal.loop-i-init

@@ -1,5 +1,5 @@
 -- `frontdesk::tables::team_at` is safe and ends.
-use Rattle.std.proofs.Common.{◌-◌, rules}
+use Rattle.std.proofs.Common.{◌-◌}
 use Rattle.frontdesk.proofs.tables.team_at.Given as goal
 
 abbrev pub invariant-loop-i : goal.invariant-loop-i

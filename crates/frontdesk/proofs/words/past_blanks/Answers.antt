@@ -1,5 +1,4 @@
 -- `frontdesk::words::past_blanks` is safe and ends.
-use Rattle.std.proofs.Common.{◌-◌, length, rules}
 use Rattle.frontdesk.proofs.words.past_blanks.Goals as goal
 
 pub loop-at-init : goal.loop-at-init

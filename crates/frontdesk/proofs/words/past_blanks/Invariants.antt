@@ -1,5 +1,5 @@
 -- `frontdesk::words::past_blanks` is safe and ends.
-use Rattle.std.proofs.Common.{◌-◌, length, rules}
+use Rattle.std.proofs.Common.{◌-◌, length}
 use Rattle.frontdesk.proofs.words.past_blanks.Given as goal
 
 abbrev pub invariant-loop-at : goal.invariant-loop-at

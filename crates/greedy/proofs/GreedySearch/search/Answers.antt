@@ -13,7 +13,6 @@ use Rattle.seating.specs.Seating.{Sheets, handed_out}
 use Rattle.seating.proofs.Handing.{handed_refused, handed_on}
 use Rattle.seating.proofs.Checked.{passed_first, behind_first}
 use Rattle.greedy.specs.Greedy.{greedy_matches}
-use borrow.Author.Rules.{rules}
 use Rattle.greedy.proofs.GreedySearch.search.Goals as goal
 
 pub returns-in-Refused : goal.returns-in-Refused

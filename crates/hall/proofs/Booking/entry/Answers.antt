@@ -1,5 +1,4 @@
 -- The rating is the float of the booking's bits.
-use borrow.Author.Rules.{rules}
 use lib.Ieee.{Float}
 use mathlib.Core.Path.{ap}
 use Rattle.hall.proofs.Booking.entry.Goals as goal

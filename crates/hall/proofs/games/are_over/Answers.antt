@@ -1,5 +1,4 @@
 -- A size, or else the last game served.
-use borrow.Author.Rules.{rules}
 use mathlib.Core.Path.{sym, ◌∙◌}
 use Rattle.hall.proofs.GameLaws.{over_sizes, over_game, over_none}
 use Rattle.hall.proofs.games.are_over.Goals as goal

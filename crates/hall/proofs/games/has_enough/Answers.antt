@@ -1,5 +1,4 @@
 -- So many of the game, for its sizes.
-use borrow.Author.Rules.{rules}
 use Rattle.hall.specs.Games.{enough}
 use Rattle.hall.proofs.games.has_enough.Goals as goal
 

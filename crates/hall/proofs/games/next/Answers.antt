@@ -1,11 +1,9 @@
 -- A search along the circle: the rest gives what the whole gives.
-use borrow.Author.Rules.{rules}
 use native.Mathlib.Omega.{arith}
 use mathlib.Core.Path.{refl, sym, ◌∙◌}
-use Prim.Native.Nat.{◌-◌, ◌≤◌}
 use lib.ListN.{take}
 use Rattle.hall.specs.Games.{enough}
-use Rattle.hall.proofs.GameLaws.{Rest, next_hit, next_on, next_none}
+use Rattle.hall.proofs.GameLaws.{next_hit, next_on, next_none}
 use Rattle.hall.proofs.games.next.Goals as goal
 
 pub loop-i-init : goal.loop-i-init

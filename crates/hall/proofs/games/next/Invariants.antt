@@ -1,11 +1,8 @@
 -- A search along the circle: the rest gives what the whole gives.
-use borrow.Author.Rules.{rules}
-use native.Mathlib.Omega.{arith}
-use mathlib.Core.Path.{refl, sym, ◌∙◌}
 use Prim.Native.Nat.{◌-◌, ◌≤◌}
 use lib.ListN.{take}
 use Rattle.hall.specs.Games.{enough}
-use Rattle.hall.proofs.GameLaws.{Rest, next_hit, next_on, next_none}
+use Rattle.hall.proofs.GameLaws.{Rest}
 use Rattle.hall.proofs.games.next.Given as goal
 
 abbrev pub invariant-loop-i : goal.invariant-loop-i

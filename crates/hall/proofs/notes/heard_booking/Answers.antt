@@ -1,5 +1,4 @@
 -- The answer noted where the key stands for the booking, else 7.
-use borrow.Author.Rules.{rules}
 use mathlib.Core.Path.{sym, ap, ◌∙◌}
 use Rattle.hall.specs.Steps.{heard_or}
 use Rattle.hall.proofs.KeyLaws.{heard_clash, heard_known}

@@ -1,5 +1,4 @@
 -- A withdrawal of the same guest, or another call.
-use borrow.Author.Rules.{rules}
 use mathlib.Core.Path.{sym, ap, ◌∙◌}
 use borrow.Author.Tests.{eq-eqb, ne_eqb}
 use Rattle.hall.specs.Hall.{answer_in}

@@ -1,13 +1,9 @@
 -- A search: what is done and the place in the rest make the place in the whole.
-use borrow.Author.Rules.{rules}
-use native.Mathlib.Omega.{arith}
 use mathlib.Core.Path.{◌≡◌}
 use Prim.Native.Nat.{◌+◌, ◌-◌, ◌≤◌}
 use lib.Dec.{eqb}
 use lib.ListN.{length, take, drop}
-use borrow.Author.Tests.{eq-eqb, ne_eqb}
 use Rattle.base.specs.Lists.{place}
-use Rattle.hall.proofs.KeyLaws.{key_hit, key_on, key_end_column, key_end}
 use Rattle.hall.proofs.notes.place_of.Given as goal
 
 abbrev pub invariant-loop-i : goal.invariant-loop-i

@@ -1,5 +1,4 @@
 -- By what was noted: all of a booking, only its guest, or no booking.
-use borrow.Author.Rules.{rules}
 use mathlib.Core.Path.{sym, ◌∙◌}
 use borrow.Author.Tests.{ne_eqb}
 use Rattle.hall.specs.Hall.{content_in}

@@ -1,6 +1,5 @@
 -- The sheets and the clock, in this order.
 use mathlib.Core.Path.{sym, ◌∙◌}
-use borrow.Author.Rules.{rules}
 use Rattle.hall.proofs.rounds.check_sheets_and_clock.Goals as goal
 
 pub returns-then-are_short : goal.returns-then-are_short

@@ -1,5 +1,4 @@
 -- The refusal of the terms, or else the one behind it.
-use borrow.Author.Rules.{rules}
 use Rattle.base.specs.Refusals.{checked_of}
 use Rattle.base.specs.declared.Checked.TheVariants.{Refused}
 use Rattle.base.proofs.Checks.{guard_refuses, guard_passes}

@@ -1,5 +1,4 @@
 -- The refusal's number, and nothing handed out.
-use borrow.Author.Rules.{rules}
 use Prim.Native.Nat.{ℕ}
 use mathlib.Core.Path.{ap}
 use Rattle.hall.proofs.rounds.refuses.Goals as goal

@@ -1,10 +1,8 @@
 -- A row moved up by one: what is written and what is left make the row without the one at `at`.
-use borrow.Author.Rules.{rules}
 use native.Mathlib.Omega.{arith}
 use mathlib.Core.Path.{◌≡◌}
-use mathlib.Core.List.{◌++◌}
-use Prim.Native.Nat.{◌+◌, ◌-◌, ◌≤◌, ◌<◌}
-use lib.ListN.{length, drop, take, length-set}
+use Prim.Native.Nat.{◌-◌, ◌≤◌}
+use lib.ListN.{length-set}
 use lib.Seq.{take-take}
 use Rattle.base.proofs.Loops.{shift_on, shift_end}
 use Rattle.hall.proofs.WaitLaws.{no_booking}

@@ -3,12 +3,10 @@ use borrow.Author.Rules.{rules}
 use borrow.Author.Tests.{eq-eqb, ne_eqb}
 use native.Mathlib.Omega.{arith}
 use mathlib.Core.Path.{◌≡◌}
-use Prim.Native.Nat.{◌+◌, ◌-◌, ◌≤◌}
 use lib.Dec.{eqb}
-use lib.ListN.{length, take, drop}
+use lib.ListN.{length}
 use Rattle.base.proofs.Arrays.{unmapped}
 use Rattle.base.proofs.Loops.{count_on_of, count_skip_of}
-use Rattle.hall.specs.Games.{eligible}
 use Rattle.hall.proofs.WaitLaws.{no_booking, counted}
 use Rattle.hall.proofs.waiting.count.Goals as goal
 

@@ -1,5 +1,4 @@
 -- The queue of the game's own row.
-use borrow.Author.Rules.{rules}
 use Rattle.hall.proofs.WaitLaws.{queue_of_row}
 use Rattle.hall.proofs.waiting.eligible.Goals as goal
 

@@ -2,9 +2,7 @@
 use borrow.Author.Rules.{rules}
 use native.Mathlib.Omega.{arith}
 use mathlib.Core.Path.{◌≡◌, refl, sym, ◌∙◌}
-use Prim.Native.Nat.{◌-◌, ◌≤◌}
-use lib.ListN.{length, take, drop}
-use Rattle.base.specs.Lists.{any}
+use lib.ListN.{length}
 use Rattle.base.proofs.Arrays.{unmapped}
 use Rattle.base.proofs.Loops.{seek_on_of}
 use Rattle.hall.specs.Hall.{has_time_over}

@@ -1,13 +1,8 @@
 -- A search: the rest gives what the whole gives.
-use borrow.Author.Rules.{rules}
-use native.Mathlib.Omega.{arith}
-use mathlib.Core.Path.{◌≡◌, refl}
+use mathlib.Core.Path.{◌≡◌}
 use Prim.Native.Nat.{◌-◌, ◌≤◌}
-use lib.ListN.{take, drop, length-take}
-use lib.Seq.{get_or-take}
-use borrow.Author.Tests.{eq-eqb, ne_eqb}
+use lib.ListN.{take, drop}
 use Rattle.base.specs.Lists.{member}
-use Rattle.base.proofs.Loops.{seek_hit, seek_on, seek_end}
 use Rattle.hall.proofs.waiting.is_seated.Given as goal
 
 abbrev pub invariant-loop-i : goal.invariant-loop-i

@@ -3,13 +3,10 @@ use borrow.Author.Rules.{rules}
 use borrow.Author.Tests.{eq-eqb, ne_eqb}
 use native.Mathlib.Omega.{arith}
 use mathlib.Core.Path.{◌≡◌, refl}
-use mathlib.Core.List.{◌++◌}
-use Prim.Native.Nat.{◌-◌, ◌≤◌}
 use lib.Dec.{eqb}
-use lib.ListN.{length, take, drop, length-set}
+use lib.ListN.{length, length-set}
 use Rattle.base.proofs.Arrays.{unmapped}
 use Rattle.base.proofs.Loops.{keep_on_of, keep_skip_of}
-use Rattle.hall.specs.Games.{eligible}
 use Rattle.hall.proofs.WaitLaws.{no_booking, kept}
 use Rattle.hall.proofs.waiting.of_game.Goals as goal
 

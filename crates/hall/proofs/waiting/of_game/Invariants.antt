@@ -1,16 +1,9 @@
 -- A row is written from another: it holds the game's bookings so far, and the rest gives what is missing.
-use borrow.Author.Rules.{rules}
-use borrow.Author.Tests.{eq-eqb, ne_eqb}
-use native.Mathlib.Omega.{arith}
-use mathlib.Core.Path.{◌≡◌, refl}
+use mathlib.Core.Path.{◌≡◌}
 use mathlib.Core.List.{◌++◌}
 use Prim.Native.Nat.{◌-◌, ◌≤◌}
-use lib.Dec.{eqb}
-use lib.ListN.{length, take, drop, length-set}
-use Rattle.base.proofs.Arrays.{unmapped}
-use Rattle.base.proofs.Loops.{keep_on_of, keep_skip_of}
+use lib.ListN.{length, take, drop}
 use Rattle.hall.specs.Games.{eligible}
-use Rattle.hall.proofs.WaitLaws.{no_booking, kept}
 use Rattle.hall.proofs.waiting.of_game.Given as goal
 
 abbrev pub invariant-loop-i : goal.invariant-loop-i

@@ -1,13 +1,8 @@
 -- A search: what is done and the place in the rest make the place in the whole.
 use borrow.Author.Rules.{rules}
 use native.Mathlib.Omega.{arith}
-use mathlib.Core.Path.{◌≡◌}
-use Prim.Native.Nat.{◌+◌, ◌-◌, ◌≤◌}
-use lib.ListN.{take, drop}
 use borrow.Author.Tests.{eq-eqb, ne_eqb}
-use Rattle.base.specs.Lists.{place}
 use Rattle.base.proofs.Loops.{place_hit_of, place_on_of, place_end_of}
-use Rattle.hall.specs.Hall.{booked_by}
 use Rattle.hall.proofs.WaitLaws.{no_booking}
 use Rattle.hall.proofs.waiting.place_of.Goals as goal
 

@@ -1,13 +1,9 @@
 -- A queue is filled: what is written are the entries of the first bookings.
-use borrow.Author.Rules.{rules}
-use native.Mathlib.Omega.{arith}
-use mathlib.Core.Path.{◌≡◌, refl}
+use mathlib.Core.Path.{◌≡◌}
 use mathlib.Core.List.{map}
 use Prim.Native.Nat.{◌-◌, ◌≤◌}
-use lib.ListN.{length, take, length-set}
-use Rattle.base.proofs.Arrays.{fill_on, unmapped}
+use lib.ListN.{length, take}
 use Rattle.hall.specs.Hall.{entry_of}
-use Rattle.hall.proofs.WaitLaws.{no_booking, queued}
 use Rattle.hall.proofs.waiting.queue_of.Given as goal
 
 abbrev pub invariant-loop-i : goal.invariant-loop-i

@@ -3,13 +3,10 @@ use borrow.Author.Rules.{rules}
 use native.Mathlib.Omega.{arith}
 use mathlib.Core.Path.{◌≡◌, refl, sym, ◌∙◌}
 use mathlib.Core.Bool.{not}
-use mathlib.Core.List.{◌++◌}
-use Prim.Native.Nat.{◌-◌, ◌≤◌}
-use lib.ListN.{length, take, drop, length-set}
+use lib.ListN.{length, take, length-set}
 use Rattle.base.specs.Lists.{member}
 use Rattle.base.proofs.Arrays.{unmapped}
 use Rattle.base.proofs.Loops.{keep_on_of, keep_skip_of}
-use Rattle.hall.specs.Hall.{without_guests}
 use Rattle.hall.proofs.WaitLaws.{no_booking, kept}
 use Rattle.hall.proofs.waiting.without_seated.Goals as goal
 

@@ -1,16 +1,9 @@
 -- A row is written from another: it holds who stays so far, and the rest gives what is missing.
-use borrow.Author.Rules.{rules}
-use native.Mathlib.Omega.{arith}
-use mathlib.Core.Path.{◌≡◌, refl, sym, ◌∙◌}
-use mathlib.Core.Bool.{not}
+use mathlib.Core.Path.{◌≡◌}
 use mathlib.Core.List.{◌++◌}
 use Prim.Native.Nat.{◌-◌, ◌≤◌}
-use lib.ListN.{length, take, drop, length-set}
-use Rattle.base.specs.Lists.{member}
-use Rattle.base.proofs.Arrays.{unmapped}
-use Rattle.base.proofs.Loops.{keep_on_of, keep_skip_of}
+use lib.ListN.{length, take, drop}
 use Rattle.hall.specs.Hall.{without_guests}
-use Rattle.hall.proofs.WaitLaws.{no_booking, kept}
 use Rattle.hall.proofs.waiting.without_seated.Given as goal
 
 abbrev pub invariant-loop-i : goal.invariant-loop-i

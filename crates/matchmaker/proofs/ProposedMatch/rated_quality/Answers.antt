@@ -1,5 +1,4 @@
 -- `ProposedMatch::rated_quality` meets its contract, by those of the two it calls.
-use Rattle.std.proofs.Common.{rules}
 use Rattle.matchmaker.proofs.ProposedMatch.rated_quality.Goals as goal
 
 pub returns : goal.returns

@@ -1,5 +1,5 @@
 -- `Team::add_to` meets its contract: the sum so far with the rest of the players makes the whole sum.
-use Rattle.std.proofs.Common.{◌≡◌, ℕ, ◌-◌, ◌≤◌, List, length, take, drop, sym, refl, ap, ◌∙◌, arith, rules}
+use Rattle.std.proofs.Common.{◌≡◌, ℕ, List, length, take, sym, refl, ap, ◌∙◌, arith, rules}
 use mathlib.Core.List.{foldl}
 use lib.Ieee.{Float, binary64, add}
 use Rattle.base.proofs.Arrays.{unmapped}

@@ -1,13 +1,9 @@
 -- `Team::add_to` meets its contract: the sum so far with the rest of the players makes the whole sum.
-use Rattle.std.proofs.Common.{◌≡◌, ℕ, ◌-◌, ◌≤◌, List, length, take, drop, sym, refl, ap, ◌∙◌, arith, rules}
+use Rattle.std.proofs.Common.{◌≡◌, ℕ, ◌-◌, ◌≤◌, List, take, drop}
 use mathlib.Core.List.{foldl}
 use lib.Ieee.{Float, binary64, add}
-use Rattle.base.proofs.Arrays.{unmapped}
-use Rattle.base.proofs.Loops.{fold_on_of, fold_end_of}
 use Rattle.roster.specs.Roster.{observe}
 use Rattle.matchmaker.specs.Steps.{absorb}
-use Rattle.base.proofs.Arrays.{all_held, held_fits}
-use Rattle.matchmaker.proofs.Laws.{fold_observations}
 use Rattle.matchmaker.proofs.Team.add_to.Given as goal
 
 -- one player's part in the sum

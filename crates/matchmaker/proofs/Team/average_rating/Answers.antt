@@ -1,5 +1,4 @@
 -- `Team::average_rating` meets its contract, by those of the three it calls.
-use Rattle.std.proofs.Common.{rules}
 use Rattle.matchmaker.proofs.Team.average_rating.Goals as goal
 
 pub returns : goal.returns

@@ -1,6 +1,5 @@
 -- `Team::seat` meets its contract: so many places of the team stand behind the first of the array.
-use Rattle.std.proofs.Common.{◌≡◌, ◌+◌, ◌-◌, ◌≤◌, ◌++◌, length, take, sym, arith, length-set, rules}
-use Rattle.base.specs.Sheets.{laid}
+use Rattle.std.proofs.Common.{◌≡◌, length, sym, arith, length-set, rules}
 use Rattle.base.proofs.Arrays.{unmapped}
 use Rattle.matchmaker.proofs.Rows.{seat_on, seat_end, seat_start, seat_none, seat_more, seat_all}
 use Rattle.matchmaker.proofs.Team.seat.Goals as goal

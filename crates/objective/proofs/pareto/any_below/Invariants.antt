@@ -1,12 +1,8 @@
 -- `pareto::any_below` meets its contract: the rest of both arrays decides what all of them decide.
 use Prim.Native.Nat.{◌-◌, ◌≤◌}
-use mathlib.Core.Path.{◌≡◌, refl}
-use native.Mathlib.Omega.{arith}
-use lib.Ieee.{nan}
+use mathlib.Core.Path.{◌≡◌}
 use lib.ListN.{drop}
 use Rattle.objective.specs.Pareto.{any_below}
-use Rattle.objective.proofs.Laws.{below_hit, below_on, below_end}
-use borrow.Author.Rules.{rules}
 use Rattle.objective.proofs.pareto.any_below.Given as goal
 
 abbrev pub invariant-loop-i : goal.invariant-loop-i

@@ -1,7 +1,6 @@
 -- `score::add_wait` meets its contract: where the player waits the longer counts, and elsewhere the longest is left.
 use native.Mathlib.Omega.{arith}
 use Rattle.roster.proofs.Laws.{observe_row, observe_no_row, observe_short}
-use borrow.Author.Rules.{rules}
 use Rattle.objective.proofs.score.add_wait.Goals as goal
 
 pub returns-then-waiting-place : goal.returns-then-waiting-place

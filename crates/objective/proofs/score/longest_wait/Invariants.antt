@@ -1,17 +1,13 @@
 -- `score::longest_wait` meets its contract: the longest so far with the rest of the players makes the longest of all.
 use Prim.Native.Nat.{ℕ, ◌-◌, ◌≤◌}
-use mathlib.Core.Path.{◌≡◌, refl, sym, ◌∙◌}
+use mathlib.Core.Path.{◌≡◌}
 use mathlib.Core.List.{List, foldl}
-use native.Mathlib.Omega.{arith}
 use lib.ListN.{length, drop}
 use lib.Ieee.{Float}
 use Rattle.base.specs.Floats.{zero}
-use Rattle.base.proofs.Loops.{fold_on, fold_end}
 use Rattle.matchmaker.specs.Steps.{absorb}
-use Rattle.matchmaker.proofs.Laws.{fold_observations}
 use Rattle.objective.specs.Score.{longer}
 use Rattle.objective.specs.Steps.{column_wait}
-use borrow.Author.Rules.{rules}
 use Rattle.objective.proofs.score.longest_wait.Given as goal
 
 -- one player's part in the longest wait

@@ -1,6 +1,5 @@
 -- `soft::add_weighted` meets its contract, by those of the two it calls.
 use Rattle.objective.specs.Soft.{weighted}
-use borrow.Author.Rules.{rules}
 use Rattle.objective.proofs.soft.add_weighted.Goals as goal
 
 pub returns : goal.returns

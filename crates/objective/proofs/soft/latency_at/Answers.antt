@@ -1,6 +1,5 @@
 -- `soft::latency_at` meets its contract, by that of `min`.
 use Rattle.objective.specs.Soft.{latency_at}
-use borrow.Author.Rules.{rules}
 use Rattle.objective.proofs.soft.latency_at.Goals as goal
 
 pub returns : goal.returns

@@ -4,7 +4,6 @@ use Rattle.roster.specs.Roster.{of_ratings}
 use Rattle.matchmaker.specs.Quality.{match_of}
 use Rattle.objective.proofs.Laws.{latency_known}
 use Rattle.objective.specs.Soft.{latency_at}
-use borrow.Author.Rules.{rules}
 use Rattle.objective.proofs.soft.rated_latency.Goals as goal
 
 pub returns : goal.returns

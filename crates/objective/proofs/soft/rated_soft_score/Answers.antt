@@ -1,5 +1,4 @@
 -- `soft::rated_soft_score` meets its contract, by those of the three it calls.
-use borrow.Author.Rules.{rules}
 use Rattle.objective.proofs.soft.rated_soft_score.Goals as goal
 
 pub returns : goal.returns

@@ -4,7 +4,6 @@ use borrow.Author.Tests.{lt-ltb, le-ltb}
 use Rattle.roster.specs.Roster.{of_ratings}
 use Rattle.matchmaker.specs.Quality.{match_of}
 use Rattle.objective.proofs.Laws.{soft_overfull, soft_long, soft_roster, soft_given}
-use borrow.Author.Rules.{rules}
 use Rattle.objective.proofs.soft.soft_score.Goals as goal
 
 pub returns-then-is_overfull : goal.returns-then-is_overfull

@@ -1,5 +1,4 @@
 -- `Matches::hand_out` meets its contract: what its four callees say, put together.
-use borrow.Author.Rules.{rules}
 use Rattle.seating.proofs.Matches.hand_out.Goals as goal
 
 pub returns : goal.returns

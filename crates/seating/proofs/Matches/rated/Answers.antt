@@ -1,10 +1,10 @@
 -- `Matches::rated` meets its contract. An array filled: what is written are the qualities of the first matches.
-use Prim.Native.Nat.{ℕ, ◌-◌, ◌≤◌}
+use Prim.Native.Nat.{ℕ}
 use mathlib.Core.Path.{◌≡◌, refl}
-use mathlib.Core.List.{List, map}
+use mathlib.Core.List.{List}
 use native.Mathlib.Omega.{arith}
 use lib.Ieee.{Float}
-use lib.ListN.{length, take, length-set}
+use lib.ListN.{length, length-set}
 use Rattle.base.proofs.Arrays.{fill_on, unmapped, held_fits}
 use Rattle.roster.specs.Roster.{of_ratings}
 use Rattle.matchmaker.specs.declared.ProposedMatch.{ProposedMatch}

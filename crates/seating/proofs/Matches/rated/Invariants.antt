@@ -1,17 +1,12 @@
 -- `Matches::rated` meets its contract. An array filled: what is written are the qualities of the first matches.
 use Prim.Native.Nat.{ℕ, ◌-◌, ◌≤◌}
-use mathlib.Core.Path.{◌≡◌, refl}
+use mathlib.Core.Path.{◌≡◌}
 use mathlib.Core.List.{List, map}
-use native.Mathlib.Omega.{arith}
 use lib.Ieee.{Float}
-use lib.ListN.{length, take, length-set}
-use Rattle.base.proofs.Arrays.{fill_on, unmapped, held_fits}
+use lib.ListN.{length, take}
 use Rattle.roster.specs.Roster.{of_ratings}
 use Rattle.matchmaker.specs.declared.ProposedMatch.{ProposedMatch}
 use Rattle.matchmaker.specs.Quality.{match_of, quality_of}
-use Rattle.seating.specs.Seating.{matches_of}
-use Rattle.seating.proofs.Laws.{matches_held, filled_held}
-use borrow.Author.Rules.{rules}
 use Rattle.seating.proofs.Matches.rated.Given as goal
 
 -- the quality of a match

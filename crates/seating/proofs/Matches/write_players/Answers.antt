@@ -1,9 +1,8 @@
 -- `Matches::write_players` meets its contract: what is written and the rest of the matches behind it make the whole sheet.
-use Prim.Native.Nat.{◌-◌, ◌≤◌}
 use mathlib.Core.Path.{◌≡◌, refl, ap, ◌∙◌}
-use mathlib.Core.List.{List, ◌++◌, map}
+use mathlib.Core.List.{List, map}
 use native.Mathlib.Omega.{arith}
-use lib.ListN.{length, take, drop}
+use lib.ListN.{length}
 use Rattle.base.proofs.Arrays.{unmapped, all_held, held_fits}
 use Rattle.matchmaker.specs.declared.ProposedMatch.{ProposedMatch}
 use Rattle.matchmaker.specs.Quality.{match_of}

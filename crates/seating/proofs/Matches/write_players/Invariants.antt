@@ -1,16 +1,11 @@
 -- `Matches::write_players` meets its contract: what is written and the rest of the matches behind it make the whole sheet.
 use Prim.Native.Nat.{◌-◌, ◌≤◌}
-use mathlib.Core.Path.{◌≡◌, refl, ap, ◌∙◌}
-use mathlib.Core.List.{List, ◌++◌, map}
-use native.Mathlib.Omega.{arith}
+use mathlib.Core.Path.{◌≡◌}
+use mathlib.Core.List.{◌++◌, map}
 use lib.ListN.{length, take, drop}
-use Rattle.base.proofs.Arrays.{unmapped, all_held, held_fits}
-use Rattle.matchmaker.specs.declared.ProposedMatch.{ProposedMatch}
 use Rattle.matchmaker.specs.Quality.{match_of}
 use Rattle.seating.specs.Seating.{seats}
 use Rattle.seating.specs.Steps.{overlaid}
-use Rattle.seating.proofs.Laws.{matches_held, lent, length_lent, seat_on, seat_end}
-use borrow.Author.Rules.{rules}
 use Rattle.seating.proofs.Matches.write_players.Given as goal
 
 abbrev pub invariant-loop-i : goal.invariant-loop-i

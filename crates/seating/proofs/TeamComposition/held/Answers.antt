@@ -1,5 +1,4 @@
 -- `TeamComposition::held` meets its contract: each size is 8 at most.
-use borrow.Author.Rules.{rules}
 use Rattle.seating.proofs.TeamComposition.held.Goals as goal
 
 pub returns : goal.returns

@@ -4,7 +4,6 @@ use Rattle.base.proofs.Checks.{guard_refuses, guard_passes}
 use Rattle.queue.specs.Queue.{queue_of}
 use Rattle.roster.specs.Roster.{of_ratings}
 use Rattle.seating.proofs.Checked.{check_first, time_over_lem, in_time}
-use borrow.Author.Rules.{rules}
 use Rattle.seating.proofs.searching.check.Goals as goal
 
 pub returns-in-Refused : goal.returns-in-Refused

@@ -3,7 +3,6 @@ use mathlib.Core.Path.{sym, ◌∙◌}
 use borrow.Author.Tests.{lt-ltb, le-ltb}
 use Rattle.base.proofs.Checks.{guard_refuses, guard_passes, at_limit, under_limit, by_first, by_second}
 use Rattle.seating.specs.Seating.{sizes_over}
-use borrow.Author.Rules.{rules}
 use Rattle.seating.proofs.searching.check_first.Goals as goal
 
 pub returns-then-waiting-gt64 : goal.returns-then-waiting-gt64

@@ -1,7 +1,6 @@
 -- One law for each test.
 use Rattle.matchmaker.specs.Quality.{match_of}
 use Rattle.seating.proofs.TurnLaws.{full_a, not_full_a}
-use borrow.Author.Rules.{rules}
 use Rattle.seating.proofs.turns.is_complete.Goals as goal
 
 pub returns-then-held-sizes : goal.returns-then-held-sizes

@@ -7,7 +7,6 @@ use Rattle.seating.specs.declared.TeamComposition.{TeamComposition}
 use Rattle.seating.specs.Steps.{held_sizes}
 use Rattle.seating.specs.Turns.{takes_a}
 use Rattle.seating.proofs.TurnLaws.{turn_short, grown_a, grown_b, grown_none, joined_held}
-use borrow.Author.Rules.{rules}
 use Rattle.seating.proofs.turns.seat_next.Goals as goal
 
 pub returns-then-takes_a : goal.returns-then-takes_a

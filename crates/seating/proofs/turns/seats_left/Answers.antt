@@ -1,5 +1,4 @@
 -- `turns::seats_left` meets its contract: the anchor's seat counts where A has one.
-use Prim.Native.Nat.{◌-◌}
 use native.Mathlib.Nat.{min-le_right}
 use native.Mathlib.Omega.{arith}
 use borrow.Author.Rules.{rules}

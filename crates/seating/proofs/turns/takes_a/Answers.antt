@@ -2,7 +2,6 @@
 use native.Mathlib.Omega.{arith}
 use Rattle.matchmaker.specs.Quality.{match_of}
 use Rattle.seating.proofs.TurnLaws.{turn_full, turn_even, turn_ahead}
-use borrow.Author.Rules.{rules}
 use Rattle.seating.proofs.turns.takes_a.Goals as goal
 
 pub returns-then-sizes-m : goal.returns-then-sizes-m

@@ -1,13 +1,7 @@
 -- The best so far and the rest of the scores make the best of all.
-use Prim.Native.Nat.{◌-◌, ◌≤◌, ◌<◌}
-use mathlib.Core.Path.{◌≡◌, refl}
+use mathlib.Core.Path.{refl}
 use native.Mathlib.Omega.{arith}
-use lib.Ieee.{nan}
-use lib.ListN.{take, drop, get_or}
-use Rattle.base.specs.Ranking.{last_best}
-use Rattle.ranking.specs.Order.{ranked, ranked_score, numbered}
 use Rattle.selection.proofs.Laws.{best_stays, best_turns, best_end}
-use borrow.Author.Rules.{rules}
 use Rattle.selection.proofs.greedy.last_best.Goals as goal
 
 pub loop-i-init : goal.loop-i-init

@@ -7,7 +7,6 @@ use Rattle.roster.specs.Roster.{of_ratings, ratings_check}
 use Rattle.ranking.specs.Order.{numbered}
 use Rattle.selection.specs.Selection.{candidates_of, stated, too_much, best_of}
 use Rattle.selection.proofs.Laws.{answer_refused, passed_fits, ranked_refused, ranked_given, best_none}
-use borrow.Author.Rules.{rules}
 use Rattle.selection.proofs.greedy.select.Goals as goal
 
 pub returns-in-Refused : goal.returns-in-Refused

@@ -2,19 +2,17 @@
 use Rattle.selection.specs.declared.lexicographic.Candidate.{Candidate}
 use Rattle.objective.specs.declared.soft.SoftObjective.{SoftObjective}
 use mathlib.Core.Bool.{Bool}
-use Prim.Native.Nat.{◌-◌, ◌≤◌, ℕ}
-use mathlib.Core.Path.{◌≡◌, sym, ap, ◌∙◌}
-use mathlib.Core.List.{◌++◌, map, List}
+use Prim.Native.Nat.{ℕ}
+use mathlib.Core.Path.{sym, ap, ◌∙◌}
+use mathlib.Core.List.{map, List}
 use native.Mathlib.Omega.{arith}
 use lib.Ieee.{le, Float}
-use lib.ListN.{length, take, drop, length-set}
-use Rattle.base.specs.Lists.{keep}
+use lib.ListN.{take, length-set}
 use Rattle.base.proofs.Loops.{keep_on_of, keep_skip_of, keep_end_of}
 use Rattle.roster.specs.Roster.{of_ratings}
 use Rattle.selection.specs.Selection.{value_of}
 use Rattle.selection.specs.Steps.{still_in_of}
 use Rattle.selection.proofs.Laws.{keep_map}
-use borrow.Author.Rules.{rules}
 use Rattle.selection.proofs.lexicographic.at_least.Goals as goal
 
 -- is the candidate's value at least the bound?

@@ -1,18 +1,17 @@
 -- The highest so far and the rest of the shortlist make the highest of all.
 use Rattle.selection.specs.declared.lexicographic.Candidate.{Candidate}
 use Rattle.objective.specs.declared.soft.SoftObjective.{SoftObjective}
-use Prim.Native.Nat.{◌-◌, ◌≤◌, ℕ}
-use mathlib.Core.Path.{◌≡◌, sym, ap, ◌∙◌}
+use Prim.Native.Nat.{ℕ}
+use mathlib.Core.Path.{sym, ap, ◌∙◌}
 use mathlib.Core.List.{foldl, List, map-map}
 use native.Mathlib.Omega.{arith}
 use lib.Ieee.{Float}
-use lib.ListN.{take, drop}
+use lib.ListN.{take}
 use Rattle.base.proofs.Loops.{fold_on_of}
 use Rattle.roster.specs.Roster.{of_ratings}
 use Rattle.selection.specs.Selection.{max_of, highest_of, value_of}
 use Rattle.selection.specs.Steps.{still_in_of}
 use Rattle.selection.proofs.Laws.{fold_over, fold_map, lowest}
-use borrow.Author.Rules.{rules}
 use Rattle.selection.proofs.lexicographic.highest.Goals as goal
 
 -- the higher of the best so far and a candidate's value

@@ -1,14 +1,11 @@
 -- What is listed and the rest of the candidates make the whole list.
-use Prim.Native.Nat.{ℕ, ◌-◌, ◌≤◌}
+use Prim.Native.Nat.{ℕ}
 use mathlib.Core.Path.{◌≡◌, ap, ◌∙◌}
-use mathlib.Core.List.{◌++◌, map}
+use mathlib.Core.List.{map}
 use native.Mathlib.Omega.{arith}
-use lib.ListN.{length, take, drop, length-set}
-use Rattle.matchmaker.specs.Quality.{match_of}
-use Rattle.selection.specs.Selection.{placed}
+use lib.ListN.{take, length-set}
 use Rattle.selection.specs.Steps.{still_in_of}
 use Rattle.selection.proofs.Laws.{listed_on, listed_end}
-use borrow.Author.Rules.{rules}
 use Rattle.selection.proofs.lexicographic.listed.Goals as goal
 
 pub loop-i-preserved : goal.loop-i-preserved

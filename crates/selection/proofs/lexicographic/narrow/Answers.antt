@@ -1,14 +1,12 @@
 -- What is kept so far, narrowed by the rest of the objectives, is what all of them leave.
 use lib.Dec.{eqb}
-use Prim.Native.Nat.{◌-◌, ◌≤◌}
 use mathlib.Core.Path.{◌≡◌, ◌∙◌}
 use mathlib.Core.Bool.{false}
 use native.Mathlib.Omega.{arith}
 use borrow.Author.Tests.{eq-eqb, ne_eqb}
-use lib.ListN.{length, take, drop}
+use lib.ListN.{length}
 use Rattle.base.proofs.Arrays.{unmapped}
 use Rattle.roster.specs.Roster.{of_ratings}
-use Rattle.selection.specs.Selection.{narrowed}
 use Rattle.selection.specs.Steps.{shortlist_of}
 use Rattle.selection.proofs.Laws.{listed_length, narrow_stops, narrow_on, narrow_end}
 use borrow.Author.Rules.{rules}

@@ -1,17 +1,10 @@
 -- What is kept so far, narrowed by the rest of the objectives, is what all of them leave.
-use lib.Dec.{eqb}
 use Prim.Native.Nat.{◌-◌, ◌≤◌}
-use mathlib.Core.Path.{◌≡◌, ◌∙◌}
-use mathlib.Core.Bool.{false}
-use native.Mathlib.Omega.{arith}
-use borrow.Author.Tests.{eq-eqb, ne_eqb}
-use lib.ListN.{length, take, drop}
-use Rattle.base.proofs.Arrays.{unmapped}
+use mathlib.Core.Path.{◌≡◌}
+use lib.ListN.{take, drop}
 use Rattle.roster.specs.Roster.{of_ratings}
 use Rattle.selection.specs.Selection.{narrowed}
 use Rattle.selection.specs.Steps.{shortlist_of}
-use Rattle.selection.proofs.Laws.{listed_length, narrow_stops, narrow_on, narrow_end}
-use borrow.Author.Rules.{rules}
 use Rattle.selection.proofs.lexicographic.narrow.Given as goal
 
 abbrev pub invariant-loop-i : goal.invariant-loop-i

@@ -5,7 +5,6 @@ use Rattle.base.specs.Lists.{keep}
 use Rattle.roster.specs.Roster.{of_ratings}
 use Rattle.selection.specs.Selection.{thousandth, value_of}
 use Rattle.selection.specs.Steps.{shortlist_of}
-use borrow.Author.Rules.{rules}
 use Rattle.selection.proofs.lexicographic.near_best.Goals as goal
 
 pub returns : goal.returns

@@ -1,5 +1,5 @@
 -- An array filled: the place of each that is left.
-use Prim.Native.Nat.{ℕ, ◌-◌, ◌≤◌}
+use Prim.Native.Nat.{ℕ}
 use mathlib.Core.Path.{◌≡◌, refl, sym, ap, ◌∙◌}
 use mathlib.Core.List.{map, map-map}
 use native.Mathlib.Omega.{arith}

@@ -1,13 +1,8 @@
 -- An array filled: the place of each that is left.
-use Prim.Native.Nat.{ℕ, ◌-◌, ◌≤◌}
-use mathlib.Core.Path.{◌≡◌, refl, sym, ap, ◌∙◌}
-use mathlib.Core.List.{map, map-map}
-use native.Mathlib.Omega.{arith}
-use lib.ListN.{length, take, length-map, length-set}
-use Rattle.base.proofs.Arrays.{fill_on, unmapped}
-use Rattle.selection.specs.Steps.{still_in_of}
-use Rattle.selection.proofs.Laws.{counted, listed_length}
-use borrow.Author.Rules.{rules}
+use Prim.Native.Nat.{◌-◌, ◌≤◌}
+use mathlib.Core.Path.{◌≡◌}
+use mathlib.Core.List.{map}
+use lib.ListN.{length, take}
 use Rattle.selection.proofs.lexicographic.places_of.Given as goal
 
 abbrev pub invariant-loop-i : goal.invariant-loop-i

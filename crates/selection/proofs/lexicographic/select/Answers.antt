@@ -8,7 +8,6 @@ use Rattle.base.specs.Refusals.{gives}
 use Rattle.roster.specs.Roster.{of_ratings, ratings_check}
 use Rattle.selection.specs.Selection.{candidates_of, stated, too_much, narrowed}
 use Rattle.selection.proofs.Laws.{answer_refused, answer_given, passed_fits}
-use borrow.Author.Rules.{rules}
 use Rattle.selection.proofs.lexicographic.select.Goals as goal
 
 pub returns-in-Refused : goal.returns-in-Refused

@@ -1,5 +1,4 @@
 -- `value` meets its contract, by those of the three it calls.
-use borrow.Author.Rules.{rules}
 use Rattle.selection.proofs.lexicographic.value.Goals as goal
 
 pub returns : goal.returns

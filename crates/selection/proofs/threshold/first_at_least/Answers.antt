@@ -1,13 +1,9 @@
 -- A search: the first in what is left is the first of all.
-use Prim.Native.Nat.{◌-◌, ◌≤◌}
-use mathlib.Core.Path.{◌≡◌, ap, ◌∙◌}
+use mathlib.Core.Path.{ap, ◌∙◌}
 use native.Mathlib.Omega.{arith}
-use lib.ListN.{take, drop}
 use Rattle.base.specs.Refusals.{gives}
-use Rattle.ranking.specs.Order.{numbered}
-use Rattle.selection.specs.Selection.{stated, first_at_least}
+use Rattle.selection.specs.Selection.{stated}
 use Rattle.selection.proofs.Laws.{first_hit, first_on, first_none}
-use borrow.Author.Rules.{rules}
 use Rattle.selection.proofs.threshold.first_at_least.Goals as goal
 
 pub returns-then-minimum-scores : goal.returns-then-minimum-scores

@@ -7,7 +7,6 @@ use Rattle.roster.specs.Roster.{of_ratings, ratings_check}
 use Rattle.ranking.specs.Order.{numbered}
 use Rattle.selection.specs.Selection.{candidates_of, stated, too_much, first_at_least}
 use Rattle.selection.proofs.Laws.{answer_refused, answer_given, passed_fits}
-use borrow.Author.Rules.{rules}
 use Rattle.selection.proofs.threshold.select.Goals as goal
 
 pub returns-in-Refused : goal.returns-in-Refused

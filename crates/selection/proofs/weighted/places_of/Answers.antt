@@ -1,7 +1,5 @@
 -- An array filled to its end: the place of each of the order.
-use Prim.Native.Nat.{◌-◌, ◌≤◌}
 use mathlib.Core.Path.{◌≡◌, refl, sym, ap, ◌∙◌}
-use mathlib.Core.List.{map}
 use native.Mathlib.Omega.{arith}
 use lib.ListN.{length, take, length-map, length-set}
 use Rattle.base.proofs.Arrays.{fill_on, filled, take_map, unmapped}

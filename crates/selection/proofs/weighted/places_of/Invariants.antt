@@ -1,12 +1,8 @@
 -- An array filled to its end: the place of each of the order.
 use Prim.Native.Nat.{◌-◌, ◌≤◌}
-use mathlib.Core.Path.{◌≡◌, refl, sym, ap, ◌∙◌}
+use mathlib.Core.Path.{◌≡◌}
 use mathlib.Core.List.{map}
-use native.Mathlib.Omega.{arith}
-use lib.ListN.{length, take, length-map, length-set}
-use Rattle.base.proofs.Arrays.{fill_on, filled, take_map, unmapped}
-use Rattle.selection.proofs.Laws.{counted}
-use borrow.Author.Rules.{rules}
+use lib.ListN.{length, take}
 use Rattle.selection.proofs.weighted.places_of.Given as goal
 
 abbrev pub invariant-loop-i : goal.invariant-loop-i

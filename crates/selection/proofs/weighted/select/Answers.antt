@@ -8,7 +8,6 @@ use Rattle.ranking.proofs.Laws.{ordered_by}
 use Rattle.roster.specs.Roster.{of_ratings, ratings_check}
 use Rattle.selection.specs.Selection.{candidates_of, stated, too_much, falling_places}
 use Rattle.selection.proofs.Laws.{answer_refused, passed_fits, ranked_refused, ranked_given}
-use borrow.Author.Rules.{rules}
 use Rattle.selection.proofs.weighted.select.Goals as goal
 
 pub returns-in-Refused : goal.returns-in-Refused

@@ -1,15 +1,12 @@
 -- An array filled: what is written are the scores of the first candidates.
 use Rattle.matchmaker.specs.declared.ProposedMatch.{ProposedMatch}
 use Prim.Native.Nat.{ℕ, ◌-◌, ◌≤◌}
-use mathlib.Core.Path.{◌≡◌, sym, ap, ◌∙◌}
-use mathlib.Core.List.{map, List, map-map}
-use native.Mathlib.Omega.{arith}
-use lib.ListN.{length, take, length-set}
+use mathlib.Core.Path.{◌≡◌}
+use mathlib.Core.List.{map, List}
+use lib.ListN.{length, take}
 use lib.Ieee.{binary64, mul, Float}
-use Rattle.base.proofs.Arrays.{fill_on}
 use Rattle.roster.specs.Roster.{of_ratings}
 use Rattle.matchmaker.specs.Quality.{match_of, quality_of}
-use borrow.Author.Rules.{rules}
 use Rattle.selection.proofs.weighted.skill_scores.Given as goal
 
 -- the score of a candidate: the skill weight times its quality

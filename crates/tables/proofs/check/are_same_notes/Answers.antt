@@ -1,5 +1,4 @@
 -- `tables::check::are_same_notes` is safe and ends. The measure is what is left of the places.
-use Rattle.std.proofs.Common.{◌-◌, rules}
 use Rattle.tables.proofs.check.are_same_notes.Goals as goal
 
 pub loop-i-init : goal.loop-i-init

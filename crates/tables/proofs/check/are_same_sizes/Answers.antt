@@ -1,5 +1,4 @@
 -- `tables::check::are_same_sizes` is safe and ends. The measure is what is left of the games.
-use Rattle.std.proofs.Common.{◌-◌, rules}
 use Rattle.tables.proofs.check.are_same_sizes.Goals as goal
 
 pub loop-i-init : goal.loop-i-init

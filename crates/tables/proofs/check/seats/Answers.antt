@@ -1,5 +1,4 @@
 -- `tables::check::seats` is safe and ends. The measure is what is left of the matches.
-use Rattle.std.proofs.Common.{◌-◌, rules}
 use Rattle.tables.proofs.check.seats.Goals as goal
 
 pub loop-i-init : goal.loop-i-init

@@ -1,5 +1,5 @@
 -- `tables::check::seats` is safe and ends. The measure is what is left of the matches.
-use Rattle.std.proofs.Common.{◌-◌, rules}
+use Rattle.std.proofs.Common.{◌-◌}
 use Rattle.tables.proofs.check.seats.Given as goal
 
 abbrev pub invariant-loop-i : goal.invariant-loop-i

@@ -1,5 +1,5 @@
 -- `tables::check::sits` is safe and ends. The measure is what is left of the places.
-use Rattle.std.proofs.Common.{◌-◌, rules}
+use Rattle.std.proofs.Common.{◌-◌}
 use Rattle.tables.proofs.check.sits.Given as goal
 
 abbrev pub invariant-loop-i : goal.invariant-loop-i

@@ -1,5 +1,5 @@
 -- `tables::check::waits_for` is safe and ends. The measure is what is left of the places.
-use Rattle.std.proofs.Common.{◌-◌, rules}
+use Rattle.std.proofs.Common.{◌-◌}
 use Rattle.tables.proofs.check.waits_for.Given as goal
 
 abbrev pub invariant-loop-i : goal.invariant-loop-i

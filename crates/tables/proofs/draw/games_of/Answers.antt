@@ -1,5 +1,4 @@
 -- `tables::draw::games_of` is safe and ends. The measure is what is left of the games.
-use Rattle.std.proofs.Common.{◌-◌, rules}
 use Rattle.tables.proofs.draw.games_of.Goals as goal
 
 pub loop-i-init : goal.loop-i-init

@@ -1,5 +1,5 @@
 -- `tables::draw::games_of` is safe and ends. The measure is what is left of the games.
-use Rattle.std.proofs.Common.{◌-◌, rules}
+use Rattle.std.proofs.Common.{◌-◌}
 use Rattle.tables.proofs.draw.games_of.Given as goal
 
 abbrev pub invariant-loop-i : goal.invariant-loop-i

@@ -1,5 +1,5 @@
 -- `tables::lines::waiting` is safe and ends. Stores keep the array's length.
-use Rattle.std.proofs.Common.{◌≡◌, ◌-◌, length, rules}
+use Rattle.std.proofs.Common.{◌≡◌, ◌-◌, length}
 use Rattle.tables.proofs.lines.waiting.Given as goal
 
 abbrev pub invariant-loop-i : goal.invariant-loop-i

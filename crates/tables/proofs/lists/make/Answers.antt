@@ -1,5 +1,4 @@
 -- `tables::lists::make` is safe and ends. The measure is what is left of the calls.
-use Rattle.std.proofs.Common.{◌-◌, rules}
 use Rattle.tables.proofs.lists.make.Goals as goal
 
 pub loop-i-init : goal.loop-i-init

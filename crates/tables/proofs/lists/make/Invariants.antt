@@ -1,5 +1,5 @@
 -- `tables::lists::make` is safe and ends. The measure is what is left of the calls.
-use Rattle.std.proofs.Common.{◌-◌, rules}
+use Rattle.std.proofs.Common.{◌-◌}
 use Rattle.tables.proofs.lists.make.Given as goal
 
 abbrev pub invariant-loop-i : goal.invariant-loop-i

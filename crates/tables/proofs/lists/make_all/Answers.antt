@@ -1,5 +1,4 @@
 -- `tables::lists::make_all` is safe and ends. The measure is what is left of the lists.
-use Rattle.std.proofs.Common.{◌-◌, rules}
 use Rattle.tables.proofs.lists.make_all.Goals as goal
 
 pub loop-list-init : goal.loop-list-init

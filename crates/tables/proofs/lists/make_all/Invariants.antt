@@ -1,5 +1,5 @@
 -- `tables::lists::make_all` is safe and ends. The measure is what is left of the lists.
-use Rattle.std.proofs.Common.{◌-◌, rules}
+use Rattle.std.proofs.Common.{◌-◌}
 use Rattle.tables.proofs.lists.make_all.Given as goal
 
 abbrev pub invariant-loop-list : goal.invariant-loop-list

@@ -1,5 +1,5 @@
 -- `tables::rosters::ratings` is safe and ends. Stores keep the column's length.
-use Rattle.std.proofs.Common.{◌≡◌, ◌-◌, length, rules}
+use Rattle.std.proofs.Common.{◌≡◌, ◌-◌, length}
 use Rattle.tables.proofs.rosters.ratings.Given as goal
 
 abbrev pub invariant-loop-i : goal.invariant-loop-i

@@ -1,5 +1,4 @@
 -- `tables::tally::report_refusals` is safe and ends. The measure is what is left of the counts.
-use Rattle.std.proofs.Common.{◌-◌, rules}
 use Rattle.tables.proofs.tally.report_refusals.Goals as goal
 
 pub loop-i-init : goal.loop-i-init

@@ -1,5 +1,4 @@
 -- `tables::text::guests` is safe and ends. The measure is what is left of the places.
-use Rattle.std.proofs.Common.{◌-◌, rules}
 use Rattle.tables.proofs.text.guests.Goals as goal
 
 pub loop-i-init : goal.loop-i-init

@@ -1,5 +1,4 @@
 -- `tables::text::hundredths` is safe and ends. The measure is what is left of a hundred.
-use Rattle.std.proofs.Common.{◌-◌, rules}
 use Rattle.tables.proofs.text.hundredths.Goals as goal
 
 pub loop-n-init : goal.loop-n-init

@@ -1,5 +1,5 @@
 -- `tables::text::hundredths` is safe and ends. The measure is what is left of a hundred.
-use Rattle.std.proofs.Common.{◌-◌, rules}
+use Rattle.std.proofs.Common.{◌-◌}
 use Rattle.tables.proofs.text.hundredths.Given as goal
 
 abbrev pub invariant-loop-n : goal.invariant-loop-n

@@ -1,5 +1,4 @@
 -- `tables::text::matches` is safe and ends. The measure is what is left of the matches.
-use Rattle.std.proofs.Common.{◌-◌, rules}
 use Rattle.tables.proofs.text.matches.Goals as goal
 
 pub loop-i-init : goal.loop-i-init

@@ -1,5 +1,5 @@
 -- `tables::text::matches` is safe and ends. The measure is what is left of the matches.
-use Rattle.std.proofs.Common.{◌-◌, rules}
+use Rattle.std.proofs.Common.{◌-◌}
 use Rattle.tables.proofs.text.matches.Given as goal
 
 abbrev pub invariant-loop-i : goal.invariant-loop-i

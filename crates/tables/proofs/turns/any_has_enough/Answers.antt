@@ -1,5 +1,4 @@
 -- `tables::turns::any_has_enough` is safe and ends. The measure is what is left of the games.
-use Rattle.std.proofs.Common.{◌-◌, rules}
 use Rattle.tables.proofs.turns.any_has_enough.Goals as goal
 
 pub loop-game-init : goal.loop-game-init

@@ -1,5 +1,5 @@
 -- `tables::turns::any_has_enough` is safe and ends. The measure is what is left of the games.
-use Rattle.std.proofs.Common.{◌-◌, rules}
+use Rattle.std.proofs.Common.{◌-◌}
 use Rattle.tables.proofs.turns.any_has_enough.Given as goal
 
 abbrev pub invariant-loop-game : goal.invariant-loop-game

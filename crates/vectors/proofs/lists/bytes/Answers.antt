@@ -1,5 +1,5 @@
 -- `vectors::lists::bytes` is safe and ends. Stores keep the array's length.
-use Rattle.std.proofs.Common.{◌≡◌, ◌-◌, ◌≤◌, length, sym, arith, length-set, length-take-le, rules}
+use Rattle.std.proofs.Common.{sym, arith, length-set, length-take-le, rules}
 use Rattle.vectors.proofs.lists.bytes.Goals as goal
 
 pub loop-i-preserved : goal.loop-i-preserved

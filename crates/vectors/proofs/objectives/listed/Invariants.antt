@@ -1,5 +1,5 @@
 -- `vectors::objectives::listed` is safe and ends. Stores keep the arrays' lengths.
-use Rattle.std.proofs.Common.{◌≡◌, ◌-◌, length, rules}
+use Rattle.std.proofs.Common.{◌≡◌, ◌-◌, length}
 use Rattle.vectors.proofs.objectives.listed.Given as goal
 
 abbrev pub invariant-loop-i : goal.invariant-loop-i

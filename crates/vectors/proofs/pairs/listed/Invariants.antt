@@ -1,5 +1,5 @@
 -- `vectors::pairs::listed` is safe and ends. Stores keep the array's length.
-use Rattle.std.proofs.Common.{◌≡◌, ◌-◌, length, rules}
+use Rattle.std.proofs.Common.{◌≡◌, ◌-◌, length}
 use Rattle.vectors.proofs.pairs.listed.Given as goal
 
 abbrev pub invariant-loop-i : goal.invariant-loop-i

@@ -1,5 +1,4 @@
 -- `vectors::places::expect_places` is safe and ends. The measure is what is left of the places.
-use Rattle.std.proofs.Common.{◌-◌, rules}
 use Rattle.vectors.proofs.places.expect_places.Goals as goal
 
 pub loop-i-init : goal.loop-i-init

@@ -1,5 +1,5 @@
 -- `vectors::places::expect_places` is safe and ends. The measure is what is left of the places.
-use Rattle.std.proofs.Common.{◌-◌, rules}
+use Rattle.std.proofs.Common.{◌-◌}
 use Rattle.vectors.proofs.places.expect_places.Given as goal
 
 abbrev pub invariant-loop-i : goal.invariant-loop-i

@@ -1,6 +1,5 @@
 -- `vectors::queues::entries` is safe and ends. Stores keep the array's length.
-use Rattle.base.proofs.Arrays.{unmapped}
-use Rattle.std.proofs.Common.{◌≡◌, ◌-◌, length, rules}
+use Rattle.std.proofs.Common.{◌≡◌, ◌-◌, length}
 use Rattle.vectors.proofs.queues.entries.Given as goal
 
 abbrev pub invariant-loop-i : goal.invariant-loop-i

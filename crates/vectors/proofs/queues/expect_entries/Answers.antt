@@ -1,5 +1,4 @@
 -- `vectors::queues::expect_entries` is safe and ends. The measure is what is left of the entries.
-use Rattle.std.proofs.Common.{◌-◌, rules}
 use Rattle.vectors.proofs.queues.expect_entries.Goals as goal
 
 pub loop-i-init : goal.loop-i-init

@@ -1,5 +1,5 @@
 -- `vectors::queues::expect_entries` is safe and ends. The measure is what is left of the entries.
-use Rattle.std.proofs.Common.{◌-◌, rules}
+use Rattle.std.proofs.Common.{◌-◌}
 use Rattle.vectors.proofs.queues.expect_entries.Given as goal
 
 abbrev pub invariant-loop-i : goal.invariant-loop-i

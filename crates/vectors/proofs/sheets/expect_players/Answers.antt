@@ -1,5 +1,4 @@
 -- `vectors::sheets::expect_players` is safe and ends. The measure is what is left of the sheet.
-use Rattle.std.proofs.Common.{◌-◌, length, rules}
 use Rattle.vectors.proofs.sheets.expect_players.Goals as goal
 
 pub loop-i-init : goal.loop-i-init

@@ -1,5 +1,5 @@
 -- `vectors::sheets::expect_players` is safe and ends. The measure is what is left of the sheet.
-use Rattle.std.proofs.Common.{◌-◌, length, rules}
+use Rattle.std.proofs.Common.{◌-◌, length}
 use Rattle.vectors.proofs.sheets.expect_players.Given as goal
 
 abbrev pub invariant-loop-i : goal.invariant-loop-i

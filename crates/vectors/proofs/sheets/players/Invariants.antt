@@ -1,5 +1,5 @@
 -- `vectors::sheets::players` is safe and ends. Stores keep the array's length.
-use Rattle.std.proofs.Common.{◌≡◌, ◌-◌, ◌≤◌, length, sym, arith, length-set, length-take-le, rules}
+use Rattle.std.proofs.Common.{◌≡◌, ◌-◌, ◌≤◌, length}
 use Rattle.vectors.proofs.sheets.players.Given as goal
 
 abbrev pub invariant-loop-i : goal.invariant-loop-i

@@ -1,5 +1,4 @@
 -- `vectors::tally::report` is safe and ends. The measure is what is left of the counts.
-use Rattle.std.proofs.Common.{◌-◌, rules}
 use Rattle.vectors.proofs.tally.report.Goals as goal
 
 pub loop-i-init : goal.loop-i-init

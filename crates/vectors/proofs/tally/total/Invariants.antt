@@ -1,5 +1,5 @@
 -- `vectors::tally::total` is safe and ends. The measure is what is left of the counts.
-use Rattle.std.proofs.Common.{◌-◌, rules}
+use Rattle.std.proofs.Common.{◌-◌}
 use Rattle.vectors.proofs.tally.total.Given as goal
 
 abbrev pub invariant-loop-i : goal.invariant-loop-i

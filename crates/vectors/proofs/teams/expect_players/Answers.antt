@@ -1,5 +1,4 @@
 -- `vectors::teams::expect_players` is safe and ends. The measure is what is left of the players.
-use Rattle.std.proofs.Common.{◌-◌, rules}
 use Rattle.vectors.proofs.teams.expect_players.Goals as goal
 
 pub loop-i-init : goal.loop-i-init

@@ -1,5 +1,5 @@
 -- `vectors::teams::expect_players` is safe and ends. The measure is what is left of the players.
-use Rattle.std.proofs.Common.{◌-◌, rules}
+use Rattle.std.proofs.Common.{◌-◌}
 use Rattle.vectors.proofs.teams.expect_players.Given as goal
 
 abbrev pub invariant-loop-i : goal.invariant-loop-i

@@ -1,5 +1,5 @@
 -- `vectors::words::next_line` is safe and ends. The place stays between the start and the end of the text.
-use Rattle.std.proofs.Common.{◌-◌, ◌≤◌, length, rules}
+use Rattle.std.proofs.Common.{◌-◌, ◌≤◌, length}
 use Rattle.vectors.proofs.words.next_line.Given as goal
 
 abbrev pub invariant-loop-at : goal.invariant-loop-at

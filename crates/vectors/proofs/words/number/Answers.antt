@@ -1,5 +1,4 @@
 -- `vectors::words::number` is safe and ends. A value below 2^60 has room for one digit more.
-use Rattle.std.proofs.Common.{◌-◌, length, rules}
 use Rattle.vectors.proofs.words.number.Goals as goal
 
 pub loop-at-init : goal.loop-at-init

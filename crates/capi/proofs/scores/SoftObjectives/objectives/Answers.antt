@@ -1,10 +1,7 @@
 -- Each turn writes one objective behind those before it.
-use Prim.Native.Nat.{◌-◌, ◌≤◌}
 use mathlib.Core.Path.{◌≡◌, refl}
-use mathlib.Core.List.{◌++◌}
 use native.Mathlib.Omega.{arith}
-use lib.ListN.{length, take, drop, length-set}
-use Rattle.capi.specs.Scores.{softs_of}
+use lib.ListN.{length, length-set}
 use Rattle.capi.proofs.Softs.{softs_on, softs_end}
 use borrow.Author.Rules.{rules}
 use Rattle.capi.proofs.scores.SoftObjectives.objectives.Goals as goal

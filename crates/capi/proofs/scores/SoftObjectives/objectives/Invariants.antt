@@ -1,12 +1,9 @@
 -- Each turn writes one objective behind those before it.
 use Prim.Native.Nat.{◌-◌, ◌≤◌}
-use mathlib.Core.Path.{◌≡◌, refl}
+use mathlib.Core.Path.{◌≡◌}
 use mathlib.Core.List.{◌++◌}
-use native.Mathlib.Omega.{arith}
-use lib.ListN.{length, take, drop, length-set}
+use lib.ListN.{length, take, drop}
 use Rattle.capi.specs.Scores.{softs_of}
-use Rattle.capi.proofs.Softs.{softs_on, softs_end}
-use borrow.Author.Rules.{rules}
 use Rattle.capi.proofs.scores.SoftObjectives.objectives.Given as goal
 
 abbrev pub invariant-loop-i : goal.invariant-loop-i

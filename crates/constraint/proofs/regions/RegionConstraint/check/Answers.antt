@@ -1,13 +1,10 @@
 -- `RegionConstraint::check` meets its contract: the rest of the pairs decides what all of them decide.
-use Prim.Native.Nat.{◌-◌, ◌≤◌}
 use mathlib.Core.Path.{◌≡◌, refl, sym, ap, ◌∙◌}
 use mathlib.Core.Bool.{not}
 use native.Mathlib.Omega.{arith}
-use lib.ListN.{length, take, drop}
-use Rattle.base.specs.Lists.{every}
+use lib.ListN.{length}
 use Rattle.base.proofs.Arrays.{unmapped}
 use Rattle.base.proofs.Arrays.{held_fits}
-use Rattle.constraint.specs.Refusing.{is_pair}
 use Rattle.base.proofs.Loops.{held_hit, held_on, held_end}
 use borrow.Author.Rules.{rules}
 use Rattle.constraint.proofs.regions.RegionConstraint.check.Goals as goal

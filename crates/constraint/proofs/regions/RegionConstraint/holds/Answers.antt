@@ -1,9 +1,9 @@
 -- `RegionConstraint::holds` meets its contract: the rest of team A decides what all of it decides.
-use Prim.Native.Nat.{ℕ, ◌-◌, ◌≤◌}
+use Prim.Native.Nat.{ℕ}
 use mathlib.Core.Path.{◌≡◌, refl, sym, ap, ◌∙◌}
-use mathlib.Core.Bool.{Bool, not}
+use mathlib.Core.Bool.{not}
 use native.Mathlib.Omega.{arith}
-use lib.ListN.{length, take, drop}
+use lib.ListN.{length}
 use Rattle.base.specs.Lists.{every}
 use Rattle.base.proofs.Arrays.{unmapped}
 use Rattle.base.proofs.Arrays.{held_fits}

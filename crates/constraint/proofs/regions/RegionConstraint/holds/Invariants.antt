@@ -1,17 +1,12 @@
 -- `RegionConstraint::holds` meets its contract: the rest of team A decides what all of it decides.
 use Prim.Native.Nat.{ℕ, ◌-◌, ◌≤◌}
-use mathlib.Core.Path.{◌≡◌, refl, sym, ap, ◌∙◌}
-use mathlib.Core.Bool.{Bool, not}
-use native.Mathlib.Omega.{arith}
-use lib.ListN.{length, take, drop}
+use mathlib.Core.Path.{◌≡◌}
+use mathlib.Core.Bool.{Bool}
+use lib.ListN.{take, drop}
 use Rattle.base.specs.Lists.{every}
-use Rattle.base.proofs.Arrays.{unmapped}
-use Rattle.base.proofs.Arrays.{held_fits}
 use Rattle.roster.specs.Roster.{of_regions, region_of}
 use Rattle.matchmaker.specs.Quality.{team_of}
 use Rattle.constraint.specs.Constraints.{may_meet, pairs_of}
-use Rattle.base.proofs.Loops.{held_hit, held_on, held_end}
-use borrow.Author.Rules.{rules}
 use Rattle.constraint.proofs.regions.RegionConstraint.holds.Given as goal
 
 abbrev pub invariant-loop-i : goal.invariant-loop-i

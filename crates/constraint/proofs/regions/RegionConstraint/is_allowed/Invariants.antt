@@ -1,14 +1,9 @@
 -- `RegionConstraint::is_allowed` meets its contract: the rest of the pairs decides what all of them decide.
 use Prim.Native.Nat.{◌-◌, ◌≤◌}
-use mathlib.Core.Path.{◌≡◌, refl, sym, ◌∙◌}
-use native.Mathlib.Omega.{arith}
-use lib.ListN.{length, take, drop}
+use mathlib.Core.Path.{◌≡◌}
+use lib.ListN.{take, drop}
 use Rattle.base.specs.Lists.{any}
-use Rattle.base.proofs.Arrays.{unmapped}
-use Rattle.base.proofs.Arrays.{held_fits}
 use Rattle.constraint.specs.Constraints.{allows}
-use Rattle.base.proofs.Loops.{held_hit, held_on, held_end}
-use borrow.Author.Rules.{rules}
 use Rattle.constraint.proofs.regions.RegionConstraint.is_allowed.Given as goal
 
 abbrev pub invariant-loop-i : goal.invariant-loop-i

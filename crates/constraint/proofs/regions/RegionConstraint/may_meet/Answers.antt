@@ -1,6 +1,5 @@
 -- `RegionConstraint::may_meet` meets its contract: one without a record may meet any, and else it is for the pairs to say.
 use borrow.Author.Tests.{eq-eqb, ne_eqb}
-use borrow.Author.Rules.{rules}
 use Rattle.constraint.proofs.regions.RegionConstraint.may_meet.Goals as goal
 
 pub returns-then-x-eq4 : goal.returns-then-x-eq4

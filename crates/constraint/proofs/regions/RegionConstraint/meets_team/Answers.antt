@@ -1,13 +1,11 @@
 -- `RegionConstraint::meets_team` meets its contract: the rest of the players decides what all of them decide.
-use Prim.Native.Nat.{ℕ, ◌-◌, ◌≤◌}
+use Prim.Native.Nat.{ℕ}
 use mathlib.Core.Path.{◌≡◌, refl, sym, ap, ◌∙◌}
-use mathlib.Core.Bool.{Bool, not}
+use mathlib.Core.Bool.{not}
 use native.Mathlib.Omega.{arith}
-use lib.ListN.{length, take, drop}
-use Rattle.base.specs.Lists.{every}
+use lib.ListN.{length}
 use Rattle.base.proofs.Arrays.{unmapped}
 use Rattle.base.proofs.Arrays.{held_fits}
-use Rattle.roster.specs.Roster.{of_regions, region_of}
 use Rattle.constraint.specs.Constraints.{may_meet, pairs_of}
 use Rattle.base.proofs.Loops.{held_hit, held_on, held_end}
 use borrow.Author.Rules.{rules}

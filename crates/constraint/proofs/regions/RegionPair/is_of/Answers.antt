@@ -1,6 +1,5 @@
 -- `RegionPair::is_of` meets its contract: it is the two in this order, or else in the other.
 use mathlib.Core.Path.{sym, ◌∙◌}
-use borrow.Author.Rules.{rules}
 use Rattle.constraint.proofs.regions.RegionPair.is_of.Goals as goal
 
 pub returns-then-is_just : goal.returns-then-is_just

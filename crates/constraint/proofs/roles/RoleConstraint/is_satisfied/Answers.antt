@@ -6,7 +6,6 @@ use Rattle.matchmaker.specs.Quality.{match_of, overfull}
 use Rattle.base.proofs.Checks.{guard_refuses, guard_passes}
 use Rattle.constraint.specs.Refusing.{roles_over}
 use Rattle.base.proofs.Checks.{by_first, by_second, at_limit, under_limit}
-use borrow.Author.Rules.{rules}
 use Rattle.constraint.proofs.roles.RoleConstraint.is_satisfied.Goals as goal
 
 pub returns-then-is_overfull : goal.returns-then-is_overfull

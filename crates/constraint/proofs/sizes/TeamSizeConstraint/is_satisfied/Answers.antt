@@ -2,7 +2,6 @@
 use mathlib.Core.Path.{sym, ap, ◌∙◌, refl}
 use Rattle.base.specs.Refusals.{gives}
 use Rattle.base.proofs.Checks.{by_first, by_second, at_limit, under_limit}
-use borrow.Author.Rules.{rules}
 use Rattle.constraint.proofs.sizes.TeamSizeConstraint.is_satisfied.Goals as goal
 
 pub returns-then-is_overfull : goal.returns-then-is_overfull

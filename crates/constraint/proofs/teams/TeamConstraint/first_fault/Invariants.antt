@@ -1,17 +1,10 @@
 -- `TeamConstraint::first_fault` meets its contract: the requirements from place i on report what all of them report.
 use Prim.Native.Nat.{◌-◌, ◌≤◌}
-use mathlib.Core.Path.{◌≡◌, refl, sym, ap, ◌∙◌}
-use borrow.Author.Tests.{not-true, not-false}
-use native.Mathlib.Omega.{arith}
-use lib.ListN.{length, take, drop}
-use Rattle.base.specs.Refusals.{gives}
-use Rattle.base.proofs.Arrays.{unmapped}
+use mathlib.Core.Path.{◌≡◌}
+use lib.ListN.{take, drop}
 use Rattle.roster.specs.Roster.{of_roles}
 use Rattle.matchmaker.specs.Quality.{team_of}
-use Rattle.base.proofs.Arrays.{all_held, held_fits}
 use Rattle.constraint.specs.Refusing.{report_from}
-use Rattle.constraint.proofs.RoleLaws.{report_few, report_many, report_on, report_end}
-use borrow.Author.Rules.{rules}
 use Rattle.constraint.proofs.teams.TeamConstraint.first_fault.Given as goal
 
 abbrev pub invariant-loop-i : goal.invariant-loop-i

@@ -8,7 +8,6 @@ use Rattle.base.proofs.Checks.{guard_refuses, guard_passes}
 use Rattle.constraint.specs.Refusing.{roles_over}
 use Rattle.base.proofs.Checks.{by_first, by_second, at_limit, under_limit}
 use Rattle.constraint.proofs.RoleLaws.{wrong_size_lem, right_size}
-use borrow.Author.Rules.{rules}
 use Rattle.constraint.proofs.teams.TeamConstraint.validate.Goals as goal
 
 pub returns-then-team-gt8 : goal.returns-then-team-gt8

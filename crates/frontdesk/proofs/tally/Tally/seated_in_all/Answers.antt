@@ -1,5 +1,4 @@
 -- `frontdesk::tally::Tally::seated_in_all` is safe and ends.
-use Rattle.std.proofs.Common.{◌-◌, rules}
 use Rattle.frontdesk.proofs.tally.Tally.seated_in_all.Goals as goal
 
 pub loop-i-init : goal.loop-i-init

@@ -1,5 +1,5 @@
 -- `frontdesk::tally::Tally::seated_in_all` is safe and ends.
-use Rattle.std.proofs.Common.{◌-◌, rules}
+use Rattle.std.proofs.Common.{◌-◌}
 use Rattle.frontdesk.proofs.tally.Tally.seated_in_all.Given as goal
 
 abbrev pub invariant-loop-i : goal.invariant-loop-i

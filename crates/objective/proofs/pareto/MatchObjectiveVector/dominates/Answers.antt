@@ -1,7 +1,6 @@
 -- `MatchObjectiveVector::dominates` meets its contract: nowhere worse, and the rest is for the other side to say.
 use mathlib.Core.Path.{sym, ◌∙◌}
 use Rattle.objective.proofs.Laws.{not_worse, better_where}
-use borrow.Author.Rules.{rules}
 use Rattle.objective.proofs.pareto.MatchObjectiveVector.dominates.Goals as goal
 
 pub returns-then-any_below : goal.returns-then-any_below

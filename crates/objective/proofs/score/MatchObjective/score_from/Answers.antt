@@ -1,6 +1,5 @@
 -- `MatchObjective::score_from` meets its contract, by that of `average`.
 use Rattle.objective.specs.Score.{score_from}
-use borrow.Author.Rules.{rules}
 use Rattle.objective.proofs.score.MatchObjective.score_from.Goals as goal
 
 pub returns : goal.returns

@@ -3,7 +3,6 @@ use mathlib.Core.Path.{sym, ◌∙◌}
 use Rattle.roster.specs.Roster.{of_ratings}
 use Rattle.matchmaker.specs.Quality.{match_of}
 use Rattle.objective.proofs.Laws.{value_overfull, value_roster, value_given}
-use borrow.Author.Rules.{rules}
 use Rattle.objective.proofs.soft.SoftObjective.value.Goals as goal
 
 pub returns-then-is_overfull : goal.returns-then-is_overfull

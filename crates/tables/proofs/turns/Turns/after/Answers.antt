@@ -1,5 +1,4 @@
 -- `tables::turns::Turns::after` is safe and ends. The measure is what is left of the games.
-use Rattle.std.proofs.Common.{◌-◌, rules}
 use Rattle.tables.proofs.turns.Turns.after.Goals as goal
 
 pub loop-game-init : goal.loop-game-init
