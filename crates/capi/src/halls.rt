@@ -1,5 +1,5 @@
-// The hall's calls, exported: each gets the hall by value and hands out the hall as it leaves it. A call reads and stores through one
-// local, and nothing here takes a hall from another function: every such step would copy it once more.
+// The hall's calls. Each gets the hall by value and hands out the hall as it leaves it, and its twin `.._in` changes a hall in place. The exports
+// call the twins, since every function that takes a hall by value copies it once more.
 ghost use Rattle.std.specs.Prelude.{◌≡◌};
 ghost use Rattle.roster.specs.Roster.{of_ratings, of_deviations, of_rules};
 ghost use Rattle.hall.specs.Hall.{hall_of, empty, book, withdraw, keyed_rule};
@@ -50,6 +50,15 @@ pub struct Rounded {
     pub refusal: u8,
 }
 
+// What a round answers beside the hall: the fields of `Rounded`.
+#[derive(Clone, Copy)]
+pub struct RoundAnswer {
+    pub count: usize,
+    pub tried: u64,
+    pub served: u8,
+    pub refusal: u8,
+}
+
 // Nobody waits, no key is noted, and no game was served.
 pub fn yilgashe_hall_empty(games: Games) -> Hall
     ensures { hall_of result ≡ empty games.sizes }
@@ -81,28 +90,30 @@ pub fn yilgashe_hall_book(hall: Hall, key: u64, booking: Booking) -> Keyed
     ensures { turn_in result ≡ keyed_rule (hall_of hall) key (book booking) }
 {
     let mut out = hall;
+    let refusal = book_in(&mut out, key, booking);
+    Keyed {
+        hall: out,
+        refusal: refusal,
+    }
+}
+
+// The same over a hall that is changed in place.
+pub fn book_in(out: &mut Hall, key: u64, booking: Booking) -> u8
+    ensures { turn_in (record { hall = out.new; refusal = result }) ≡ keyed_rule (hall_of out.old) key (book booking) }
+{
     let k = out.waiting;
     let n = out.noted;
     let sizes = out.sizes;
     if hall::is_over(k, n, sizes, out.served) {
-        return Keyed {
-            hall: out,
-            refusal: 1,
-        };
+        return 1;
     }
     let at = notes::place_of(&out.keys, n, key);
     if at < n {
         let note = out.notes[at];
-        return Keyed {
-            hall: out,
-            refusal: notes::heard_booking(note, booking),
-        };
+        return notes::heard_booking(note, booking);
     }
     if 1024 <= n {
-        return Keyed {
-            hall: out,
-            refusal: 8,
-        };
+        return 8;
     }
     let bookings = out.bookings;
     let waits = waiting::waits(bookings, k, booking.player);
@@ -113,43 +124,39 @@ pub fn yilgashe_hall_book(hall: Hall, key: u64, booking: Booking) -> Keyed
     if answer == 0 {
         out.bookings[k] = booking;
         out.waiting = k + 1;
-        return Keyed {
-            hall: out,
-            refusal: 0,
-        };
+        return 0;
     }
-    Keyed {
-        hall: out,
-        refusal: answer,
-    }
+    answer
 }
 
 pub fn yilgashe_hall_withdraw(hall: Hall, key: u64, player: u64) -> Keyed
     ensures { turn_in result ≡ keyed_rule (hall_of hall) key (withdraw player) }
 {
     let mut out = hall;
+    let refusal = withdraw_in(&mut out, key, player);
+    Keyed {
+        hall: out,
+        refusal: refusal,
+    }
+}
+
+// The same over a hall that is changed in place.
+pub fn withdraw_in(out: &mut Hall, key: u64, player: u64) -> u8
+    ensures { turn_in (record { hall = out.new; refusal = result }) ≡ keyed_rule (hall_of out.old) key (withdraw player) }
+{
     let k = out.waiting;
     let noted = out.noted;
     let sizes = out.sizes;
     if hall::is_over(k, noted, sizes, out.served) {
-        return Keyed {
-            hall: out,
-            refusal: 1,
-        };
+        return 1;
     }
     let at = notes::place_of(&out.keys, noted, key);
     if at < noted {
         let note = out.notes[at];
-        return Keyed {
-            hall: out,
-            refusal: notes::heard_withdrawal(note, player),
-        };
+        return notes::heard_withdrawal(note, player);
     }
     if 1024 <= noted {
-        return Keyed {
-            hall: out,
-            refusal: 8,
-        };
+        return 8;
     }
     let bookings = out.bookings;
     let answer = hall::withdrawal_answer(waiting::waits(bookings, k, player));
@@ -160,13 +167,23 @@ pub fn yilgashe_hall_withdraw(hall: Hall, key: u64, player: u64) -> Keyed
     let rest = staying.bookings;
     out.bookings = rest;
     out.waiting = staying.waiting;
-    Keyed {
-        hall: out,
-        refusal: answer,
-    }
+    answer
 }
 
 // ---- rounds
+
+// The places and the sizes of a hall that is lent. A value that a function hands out is known to be as long as its type says.
+fn places_of(hall: &Hall) -> [Booking; 64]
+    ensures { result ≡ hall.now.bookings }
+{
+    hall.bookings
+}
+
+fn games_of(hall: &Hall) -> [TeamComposition; 8]
+    ensures { result ≡ hall.now.sizes }
+{
+    hall.sizes
+}
 
 pub fn yilgashe_hall_greedy_round(
     hall: Hall,
@@ -180,19 +197,40 @@ pub fn yilgashe_hall_greedy_round(
     ensures { RoundNumbers (round_rule (hall_of hall) (calling (of_game game (greedy (of_ratings ids.now ratings.now))) clock players.old qualities.old)) result players.new qualities.new }
 {
     let mut out = hall;
+    let answer = greedy_round_in(&mut out, game, clock, ids, ratings, players, qualities);
+    Rounded {
+        hall: out,
+        count: answer.count,
+        tried: answer.tried,
+        served: answer.served,
+        refusal: answer.refusal,
+    }
+}
+
+// The same over a hall that is changed in place.
+pub fn greedy_round_in(
+    out: &mut Hall,
+    game: u8,
+    clock: u64,
+    ids: &[u64],
+    ratings: &[f64],
+    players: &mut [u64],
+    qualities: &mut [f64],
+) -> RoundAnswer
+    ensures { RoundNumbers (round_rule (hall_of out.old) (calling (of_game game (greedy (of_ratings ids.now ratings.now))) clock players.old qualities.old)) (record { hall = out.new; count = result.count; tried = result.tried; served = result.served; refusal = result.refusal }) players.new qualities.new }
+{
     let n = out.waiting;
     let sizes = out.sizes;
     let refusal = hall::round_answer(game, hall::is_over(n, out.noted, sizes, out.served));
     if refusal != 0 {
-        return Rounded {
-            hall: out,
+        return RoundAnswer {
             count: 0,
             tried: 0,
             served: 255,
             refusal: refusal,
         };
     }
-    let bookings = out.bookings;
+    let bookings = places_of(out);
     let handed = rounds::greedy_handed(
         bookings,
         n,
@@ -208,8 +246,7 @@ pub fn yilgashe_hall_greedy_round(
     let rest = staying.bookings;
     out.bookings = rest;
     out.waiting = staying.waiting;
-    Rounded {
-        hall: out,
+    RoundAnswer {
         count: handed.count,
         tried: handed.tried,
         served: 255,
@@ -232,19 +269,45 @@ pub fn yilgashe_hall_beam_round(
     ensures { RoundNumbers (round_rule (hall_of hall) (calling (of_game game (beam search.width objective (of_deviations ids.now ratings.now deviations.now))) clock players.old qualities.old)) result players.new qualities.new }
 {
     let mut out = hall;
+    let answer = beam_round_in(
+        &mut out, search, game, objective, clock, ids, ratings, deviations, players, qualities,
+    );
+    Rounded {
+        hall: out,
+        count: answer.count,
+        tried: answer.tried,
+        served: answer.served,
+        refusal: answer.refusal,
+    }
+}
+
+// The same over a hall that is changed in place.
+pub fn beam_round_in(
+    out: &mut Hall,
+    search: BeamSearch,
+    game: u8,
+    objective: MatchObjective,
+    clock: u64,
+    ids: &[u64],
+    ratings: &[f64],
+    deviations: &[f64],
+    players: &mut [u64],
+    qualities: &mut [f64],
+) -> RoundAnswer
+    ensures { RoundNumbers (round_rule (hall_of out.old) (calling (of_game game (beam search.width objective (of_deviations ids.now ratings.now deviations.now))) clock players.old qualities.old)) (record { hall = out.new; count = result.count; tried = result.tried; served = result.served; refusal = result.refusal }) players.new qualities.new }
+{
     let n = out.waiting;
     let sizes = out.sizes;
     let refusal = hall::round_answer(game, hall::is_over(n, out.noted, sizes, out.served));
     if refusal != 0 {
-        return Rounded {
-            hall: out,
+        return RoundAnswer {
             count: 0,
             tried: 0,
             served: 255,
             refusal: refusal,
         };
     }
-    let bookings = out.bookings;
+    let bookings = places_of(out);
     let handed = rounds::beam_handed(
         bookings,
         n,
@@ -263,8 +326,7 @@ pub fn yilgashe_hall_beam_round(
     let rest = staying.bookings;
     out.bookings = rest;
     out.waiting = staying.waiting;
-    Rounded {
-        hall: out,
+    RoundAnswer {
         count: handed.count,
         tried: handed.tried,
         served: 255,
@@ -290,12 +352,41 @@ pub fn yilgashe_hall_full_round(
     ensures { RoundNumbers (full_rule (hall_of hall) game objectives (full_call game rules objectives clock (of_rules ids.now ratings.now parties.now roles.now regions.now) (sheets players.old qualities.old))) result players.new qualities.new }
 {
     let mut out = hall;
+    let answer = full_round_in(
+        &mut out, game, rules, objectives, clock, ids, ratings, parties, roles, regions, players,
+        qualities,
+    );
+    Rounded {
+        hall: out,
+        count: answer.count,
+        tried: answer.tried,
+        served: answer.served,
+        refusal: answer.refusal,
+    }
+}
+
+// The same over a hall that is changed in place.
+pub fn full_round_in(
+    out: &mut Hall,
+    game: u8,
+    rules: RoundRules,
+    objectives: SoftObjectives,
+    clock: u64,
+    ids: &[u64],
+    ratings: &[f64],
+    parties: &[u64],
+    roles: &[u32],
+    regions: &[u8],
+    players: &mut [u64],
+    qualities: &mut [f64],
+) -> RoundAnswer
+    ensures { RoundNumbers (full_rule (hall_of out.old) game objectives (full_call game rules objectives clock (of_rules ids.now ratings.now parties.now roles.now regions.now) (sheets players.old qualities.old))) (record { hall = out.new; count = result.count; tried = result.tried; served = result.served; refusal = result.refusal }) players.new qualities.new }
+{
     let n = out.waiting;
     let sizes = out.sizes;
     let refusal = hall::round_answer(game, hall::is_over(n, out.noted, sizes, out.served));
     if refusal != 0 {
-        return Rounded {
-            hall: out,
+        return RoundAnswer {
             count: 0,
             tried: 0,
             served: 255,
@@ -303,15 +394,14 @@ pub fn yilgashe_hall_full_round(
         };
     }
     if objectives.has_no_kind() {
-        return Rounded {
-            hall: out,
+        return RoundAnswer {
             count: 0,
             tried: 0,
             served: 255,
             refusal: 1,
         };
     }
-    let bookings = out.bookings;
+    let bookings = places_of(out);
     let handed = rounds::full_handed(
         bookings,
         n,
@@ -334,8 +424,7 @@ pub fn yilgashe_hall_full_round(
     let rest = staying.bookings;
     out.bookings = rest;
     out.waiting = staying.waiting;
-    Rounded {
-        hall: out,
+    RoundAnswer {
         count: handed.count,
         tried: handed.tried,
         served: 255,
@@ -355,19 +444,39 @@ pub fn yilgashe_hall_dispatch(
     ensures { RoundNumbers (round_rule (hall_of hall) (calling (dispatch (of_ratings ids.now ratings.now)) clock players.old qualities.old)) result players.new qualities.new }
 {
     let mut out = hall;
+    let answer = dispatch_in(&mut out, clock, ids, ratings, players, qualities);
+    Rounded {
+        hall: out,
+        count: answer.count,
+        tried: answer.tried,
+        served: answer.served,
+        refusal: answer.refusal,
+    }
+}
+
+// The same over a hall that is changed in place.
+pub fn dispatch_in(
+    out: &mut Hall,
+    clock: u64,
+    ids: &[u64],
+    ratings: &[f64],
+    players: &mut [u64],
+    qualities: &mut [f64],
+) -> RoundAnswer
+    ensures { RoundNumbers (round_rule (hall_of out.old) (calling (dispatch (of_ratings ids.now ratings.now)) clock players.old qualities.old)) (record { hall = out.new; count = result.count; tried = result.tried; served = result.served; refusal = result.refusal }) players.new qualities.new }
+{
     let n = out.waiting;
-    let sizes = out.sizes;
+    let sizes = games_of(out);
     let last = out.served;
     if hall::is_over(n, out.noted, sizes, last) {
-        return Rounded {
-            hall: out,
+        return RoundAnswer {
             count: 0,
             tried: 0,
             served: 255,
             refusal: 1,
         };
     }
-    let bookings = out.bookings;
+    let bookings = places_of(out);
     let game = games::next(bookings, n, sizes, last);
     let handed = rounds::greedy_handed(
         bookings,
@@ -386,8 +495,7 @@ pub fn yilgashe_hall_dispatch(
     out.bookings = rest;
     out.waiting = staying.waiting;
     out.served = games::last_served(last, served);
-    Rounded {
-        hall: out,
+    RoundAnswer {
         count: handed.count,
         tried: handed.tried,
         served: served,

@@ -1,6 +1,6 @@
-// The library that C and Rust programs link: numbers, slices and #[repr(C)] structs by value. Every export promises what the crates
-// below it promise, in numbers: a refusal is document 01's number, 0 where there is none. The exports are thin; the hall's calls stand
-// here whole, since each function that a hall goes through copies it.
+// What C and Rust programs link, as functions of a library: numbers, slices and #[repr(C)] structs by value. Every function promises what the
+// crates below it promise, in numbers: a refusal is document 01's number, 0 where there is none. They are thin; the hall's calls stand here whole.
+// The crate `capi_c` exports them.
 #![tactic(auto)]
 
 // The queue and times.

@@ -24,14 +24,24 @@ pub extern "C" fn yilgashe_hall_empty(games: Games) -> Hall
 pub extern "C" fn yilgashe_hall_book(hall: Hall, key: u64, booking: Booking) -> Keyed
     ensures { turn_in result ≡ keyed_rule (hall_of hall) key (book booking) }
 {
-    halls::yilgashe_hall_book(hall, key, booking)
+    let mut out = hall;
+    let refusal = halls::book_in(&mut out, key, booking);
+    Keyed {
+        hall: out,
+        refusal: refusal,
+    }
 }
 
 #[unsafe(no_mangle)]
 pub extern "C" fn yilgashe_hall_withdraw(hall: Hall, key: u64, player: u64) -> Keyed
     ensures { turn_in result ≡ keyed_rule (hall_of hall) key (withdraw player) }
 {
-    halls::yilgashe_hall_withdraw(hall, key, player)
+    let mut out = hall;
+    let refusal = halls::withdraw_in(&mut out, key, player);
+    Keyed {
+        hall: out,
+        refusal: refusal,
+    }
 }
 
 #[unsafe(no_mangle)]
@@ -46,7 +56,15 @@ pub extern "C" fn yilgashe_hall_greedy_round(
 ) -> Rounded
     ensures { RoundNumbers (round_rule (hall_of hall) (calling (of_game game (greedy (of_ratings ids.now ratings.now))) clock players.old qualities.old)) result players.new qualities.new }
 {
-    halls::yilgashe_hall_greedy_round(hall, game, clock, ids, ratings, players, qualities)
+    let mut out = hall;
+    let answer = halls::greedy_round_in(&mut out, game, clock, ids, ratings, players, qualities);
+    Rounded {
+        hall: out,
+        count: answer.count,
+        tried: answer.tried,
+        served: answer.served,
+        refusal: answer.refusal,
+    }
 }
 
 #[unsafe(no_mangle)]
@@ -64,9 +82,17 @@ pub extern "C" fn yilgashe_hall_beam_round(
 ) -> Rounded
     ensures { RoundNumbers (round_rule (hall_of hall) (calling (of_game game (beam search.width objective (of_deviations ids.now ratings.now deviations.now))) clock players.old qualities.old)) result players.new qualities.new }
 {
-    halls::yilgashe_hall_beam_round(
-        hall, search, game, objective, clock, ids, ratings, deviations, players, qualities,
-    )
+    let mut out = hall;
+    let answer = halls::beam_round_in(
+        &mut out, search, game, objective, clock, ids, ratings, deviations, players, qualities,
+    );
+    Rounded {
+        hall: out,
+        count: answer.count,
+        tried: answer.tried,
+        served: answer.served,
+        refusal: answer.refusal,
+    }
 }
 
 #[unsafe(no_mangle)]
@@ -86,10 +112,18 @@ pub extern "C" fn yilgashe_hall_full_round(
 ) -> Rounded
     ensures { RoundNumbers (full_rule (hall_of hall) game objectives (full_call game rules objectives clock (of_rules ids.now ratings.now parties.now roles.now regions.now) (sheets players.old qualities.old))) result players.new qualities.new }
 {
-    halls::yilgashe_hall_full_round(
-        hall, game, rules, objectives, clock, ids, ratings, parties, roles, regions, players,
+    let mut out = hall;
+    let answer = halls::full_round_in(
+        &mut out, game, rules, objectives, clock, ids, ratings, parties, roles, regions, players,
         qualities,
-    )
+    );
+    Rounded {
+        hall: out,
+        count: answer.count,
+        tried: answer.tried,
+        served: answer.served,
+        refusal: answer.refusal,
+    }
 }
 
 #[unsafe(no_mangle)]
@@ -103,5 +137,13 @@ pub extern "C" fn yilgashe_hall_dispatch(
 ) -> Rounded
     ensures { RoundNumbers (round_rule (hall_of hall) (calling (dispatch (of_ratings ids.now ratings.now)) clock players.old qualities.old)) result players.new qualities.new }
 {
-    halls::yilgashe_hall_dispatch(hall, clock, ids, ratings, players, qualities)
+    let mut out = hall;
+    let answer = halls::dispatch_in(&mut out, clock, ids, ratings, players, qualities);
+    Rounded {
+        hall: out,
+        count: answer.count,
+        tried: answer.tried,
+        served: answer.served,
+        refusal: answer.refusal,
+    }
 }

@@ -12,18 +12,18 @@ use Rattle.base.proofs.Numbers.{number_accepts, number_refuses}
 use Rattle.hall.specs.Hall.{book}
 use Rattle.hall.proofs.Turns.{turned_over, turned_seen, turned_full, turned_fresh, within, booked, not_booked, accepted_room, noted_as_lem}
 use Rattle.hall.proofs.WaitLaws.{stand, joined}
-use Rattle.capi.proofs.halls.yilgashe_hall_book.Goals as goal
+use Rattle.capi.proofs.halls.book_in.Goals as goal
 
 pub returns-then-is_over : goal.returns-then-is_over
 returns-then-is_over c =
     let s = c.args in
-    let h = c.args.hall in
+    let h = c.args.out.now in
     turned_over h.bookings h.waiting h.keys h.notes h.noted h.sizes h.served s.key (book s.booking) c.is_over.ensures c.if-is_over.true
 
 pub offset_bounds-out-at : goal.offset_bounds-out-at
 offset_bounds-out-at c =
     let s = c.args in
-    let h = c.args.hall in
+    let h = c.args.out.now in
     let u = within h.waiting h.noted h.sizes h.served c.is_over.ensures c.if-is_over.false in
     let few : h.waiting ≤ 64 = u.0 in
     let fits : h.noted ≤ 1024 = u.1 in
@@ -32,7 +32,7 @@ offset_bounds-out-at c =
 pub bounds-out-at : goal.bounds-out-at
 bounds-out-at c =
     let s = c.args in
-    let h = c.args.hall in
+    let h = c.args.out.now in
     let u = within h.waiting h.noted h.sizes h.served c.is_over.ensures c.if-is_over.false in
     let few : h.waiting ≤ 64 = u.0 in
     let fits : h.noted ≤ 1024 = u.1 in
@@ -40,9 +40,9 @@ bounds-out-at c =
 
 pub returns-then-at-n : goal.returns-then-at-n
 returns-then-at-n c =
-    let places : length c.args.hall.notes ≡ 1024 = search (unmapped, rules) in
+    let places : length c.args.out.now.notes ≡ 1024 = search (unmapped, rules) in
     let s = c.args in
-    let h = c.args.hall in
+    let h = c.args.out.now in
     let u = within h.waiting h.noted h.sizes h.served c.is_over.ensures c.if-is_over.false in
     let few : h.waiting ≤ 64 = u.0 in
     let fits : h.noted ≤ 1024 = u.1 in
@@ -52,9 +52,9 @@ returns-then-at-n c =
 
 pub returns-then-n-ge1024 : goal.returns-then-n-ge1024
 returns-then-n-ge1024 c =
-    let places : length c.args.hall.notes ≡ 1024 = search (unmapped, rules) in
+    let places : length c.args.out.now.notes ≡ 1024 = search (unmapped, rules) in
     let s = c.args in
-    let h = c.args.hall in
+    let h = c.args.out.now in
     let u = within h.waiting h.noted h.sizes h.served c.is_over.ensures c.if-is_over.false in
     let few : h.waiting ≤ 64 = u.0 in
     let fits : h.noted ≤ 1024 = u.1 in
@@ -65,29 +65,29 @@ returns-then-n-ge1024 c =
 pub offset_bounds-out-k : goal.offset_bounds-out-k
 offset_bounds-out-k c =
     let s = c.args in
-    let h = c.args.hall in
+    let h = c.args.out.now in
     let room : h.waiting < 64 = accepted_room s.booking _ h.waiting c.booking_answer-answer.result c.booking_answer-answer.ensures c.if-answer-eq0.true in
     search rules
 
 pub bounds-out-k : goal.bounds-out-k
 bounds-out-k c =
     let s = c.args in
-    let h = c.args.hall in
+    let h = c.args.out.now in
     let room : h.waiting < 64 = accepted_room s.booking _ h.waiting c.booking_answer-answer.result c.booking_answer-answer.ensures c.if-answer-eq0.true in
     search rules
 
 pub overflow_add-out-then-answer-eq0 : goal.overflow_add-out-then-answer-eq0
 overflow_add-out-then-answer-eq0 c =
     let s = c.args in
-    let h = c.args.hall in
+    let h = c.args.out.now in
     let room : h.waiting < 64 = accepted_room s.booking _ h.waiting c.booking_answer-answer.result c.booking_answer-answer.ensures c.if-answer-eq0.true in
     search rules
 
 pub returns-then-answer-eq0 : goal.returns-then-answer-eq0
 returns-then-answer-eq0 c =
-    let places : length c.args.hall.notes ≡ 1024 = search (unmapped, rules) in
+    let places : length c.args.out.now.notes ≡ 1024 = search (unmapped, rules) in
     let s = c.args in
-    let h = c.args.hall in
+    let h = c.args.out.now in
     let u = within h.waiting h.noted h.sizes h.served c.is_over.ensures c.if-is_over.false in
     let few : h.waiting ≤ 64 = u.0 in
     let fits : h.noted ≤ 1024 = u.1 in
@@ -103,9 +103,9 @@ returns-then-answer-eq0 c =
 
 pub returns : goal.returns
 returns c =
-    let places : length c.args.hall.notes ≡ 1024 = search (unmapped, rules) in
+    let places : length c.args.out.now.notes ≡ 1024 = search (unmapped, rules) in
     let s = c.args in
-    let h = c.args.hall in
+    let h = c.args.out.now in
     let u = within h.waiting h.noted h.sizes h.served c.is_over.ensures c.if-is_over.false in
     let few : h.waiting ≤ 64 = u.0 in
     let fits : h.noted ≤ 1024 = u.1 in

@@ -6,18 +6,18 @@ use lib.ListN.{length, take}
 use Rattle.base.proofs.Arrays.{unmapped}
 use Rattle.hall.specs.Hall.{withdraw}
 use Rattle.hall.proofs.Turns.{turned_over, turned_seen, turned_full, turned_fresh, within, withdrawn, noted_as_lem}
-use Rattle.capi.proofs.halls.yilgashe_hall_withdraw.Goals as goal
+use Rattle.capi.proofs.halls.withdraw_in.Goals as goal
 
 pub returns-then-is_over : goal.returns-then-is_over
 returns-then-is_over c =
     let s = c.args in
-    let h = c.args.hall in
+    let h = c.args.out.now in
     turned_over h.bookings h.waiting h.keys h.notes h.noted h.sizes h.served s.key (withdraw s.player) c.is_over.ensures c.if-is_over.true
 
 pub offset_bounds-out-at : goal.offset_bounds-out-at
 offset_bounds-out-at c =
     let s = c.args in
-    let h = c.args.hall in
+    let h = c.args.out.now in
     let u = within h.waiting h.noted h.sizes h.served c.is_over.ensures c.if-is_over.false in
     let few : h.waiting ≤ 64 = u.0 in
     let fits : h.noted ≤ 1024 = u.1 in
@@ -26,7 +26,7 @@ offset_bounds-out-at c =
 pub bounds-out-at : goal.bounds-out-at
 bounds-out-at c =
     let s = c.args in
-    let h = c.args.hall in
+    let h = c.args.out.now in
     let u = within h.waiting h.noted h.sizes h.served c.is_over.ensures c.if-is_over.false in
     let few : h.waiting ≤ 64 = u.0 in
     let fits : h.noted ≤ 1024 = u.1 in
@@ -34,9 +34,9 @@ bounds-out-at c =
 
 pub returns-then-at-noted : goal.returns-then-at-noted
 returns-then-at-noted c =
-    let places : length c.args.hall.notes ≡ 1024 = search (unmapped, rules) in
+    let places : length c.args.out.now.notes ≡ 1024 = search (unmapped, rules) in
     let s = c.args in
-    let h = c.args.hall in
+    let h = c.args.out.now in
     let u = within h.waiting h.noted h.sizes h.served c.is_over.ensures c.if-is_over.false in
     let few : h.waiting ≤ 64 = u.0 in
     let fits : h.noted ≤ 1024 = u.1 in
@@ -46,9 +46,9 @@ returns-then-at-noted c =
 
 pub returns-then-noted-ge1024 : goal.returns-then-noted-ge1024
 returns-then-noted-ge1024 c =
-    let places : length c.args.hall.notes ≡ 1024 = search (unmapped, rules) in
+    let places : length c.args.out.now.notes ≡ 1024 = search (unmapped, rules) in
     let s = c.args in
-    let h = c.args.hall in
+    let h = c.args.out.now in
     let u = within h.waiting h.noted h.sizes h.served c.is_over.ensures c.if-is_over.false in
     let few : h.waiting ≤ 64 = u.0 in
     let fits : h.noted ≤ 1024 = u.1 in
@@ -58,9 +58,9 @@ returns-then-noted-ge1024 c =
 
 pub returns : goal.returns
 returns c =
-    let places : length c.args.hall.notes ≡ 1024 = search (unmapped, rules) in
+    let places : length c.args.out.now.notes ≡ 1024 = search (unmapped, rules) in
     let s = c.args in
-    let h = c.args.hall in
+    let h = c.args.out.now in
     let u = within h.waiting h.noted h.sizes h.served c.is_over.ensures c.if-is_over.false in
     let few : h.waiting ≤ 64 = u.0 in
     let fits : h.noted ≤ 1024 = u.1 in
