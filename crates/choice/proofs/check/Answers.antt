@@ -15,28 +15,28 @@ use Rattle.choice.proofs.check.Goals as goal
 pub returns-then-queue-gt64 : goal.returns-then-queue-gt64
 returns-then-queue-gt64 c =
     let s = c.args in
-    refuses_1 (of_rules s.ids.now s.ratings.now s.parties.now s.roles.now s.regions.now) s.constraints s.count s.sizes (queue_of s.queue) (lt-ltb 64 s.queue.len c.if-queue-gt64.true)
+    refuses_1 (of_rules s.ids.now s.ratings.now s.parties.now s.roles.now s.regions.now) s.constraints s.count s.sizes (queue_of s.queue) (lt-ltb 64 s.queue.len (omega arith))
 
 pub returns-in-Refused : goal.returns-in-Refused
 returns-in-Refused c =
     let s = c.args in
-    refuses_terms (of_rules s.ids.now s.ratings.now s.parties.now s.roles.now s.regions.now) s.constraints s.count s.sizes (queue_of s.queue) (le-ltb 64 s.queue.len c.if-queue-gt64.false) _ c.check_terms.ensures c.in-Refused.is
+    refuses_terms (of_rules s.ids.now s.ratings.now s.parties.now s.roles.now s.regions.now) s.constraints s.count s.sizes (queue_of s.queue) (le-ltb 64 s.queue.len (omega arith)) _ c.check_terms.ensures c.in-Refused.is
 
 pub returns-then-has_joined_over : goal.returns-then-has_joined_over
 returns-then-has_joined_over c =
     let s = c.args in
-    refuses_4 (of_rules s.ids.now s.ratings.now s.parties.now s.roles.now s.regions.now) s.constraints s.count s.sizes (queue_of s.queue) (le-ltb 64 s.queue.len c.if-queue-gt64.false) _ c.check_terms.ensures c.in_default.is (sym c.has_joined_over.ensures ∙ c.if-has_joined_over.true)
+    refuses_4 (of_rules s.ids.now s.ratings.now s.parties.now s.roles.now s.regions.now) s.constraints s.count s.sizes (queue_of s.queue) (le-ltb 64 s.queue.len (omega arith)) _ c.check_terms.ensures c.in_default.is (sym c.has_joined_over.ensures ∙ c.if-has_joined_over.true)
 
 pub returns-then-queue-gt20 : goal.returns-then-queue-gt20
 returns-then-queue-gt20 c =
     let s = c.args in
     let w : length s.queue.entries ≡ 64 = search (unmapped, rules, c.well_formed.0) in
-    let f : s.queue.len ≤ length s.queue.entries = omega (arith, w, c.if-queue-gt64.false) in
-    refuses_6 (of_rules s.ids.now s.ratings.now s.parties.now s.roles.now s.regions.now) s.constraints s.count s.sizes (queue_of s.queue) (le-ltb 64 s.queue.len c.if-queue-gt64.false) _ c.check_terms.ensures c.in_default.is (sym c.has_joined_over.ensures ∙ c.if-has_joined_over.false) (wide s.queue.entries s.queue.len f (omega (arith, c.if-queue-gt20.true)))
+    let f : s.queue.len ≤ length s.queue.entries = omega (arith, w) in
+    refuses_6 (of_rules s.ids.now s.ratings.now s.parties.now s.roles.now s.regions.now) s.constraints s.count s.sizes (queue_of s.queue) (le-ltb 64 s.queue.len (omega arith)) _ c.check_terms.ensures c.in_default.is (sym c.has_joined_over.ensures ∙ c.if-has_joined_over.false) (wide s.queue.entries s.queue.len f (omega arith))
 
 pub returns : goal.returns
 returns c =
     let s = c.args in
     let w : length s.queue.entries ≡ 64 = search (unmapped, rules, c.well_formed.0) in
-    let f : s.queue.len ≤ length s.queue.entries = omega (arith, w, c.if-queue-gt64.false) in
-    passes_all (of_rules s.ids.now s.ratings.now s.parties.now s.roles.now s.regions.now) s.constraints s.count s.sizes (queue_of s.queue) (le-ltb 64 s.queue.len c.if-queue-gt64.false) _ c.check_terms.ensures c.in_default.is (sym c.has_joined_over.ensures ∙ c.if-has_joined_over.false) (not_wide s.queue.entries s.queue.len f (omega (arith, c.if-queue-gt20.false)))
+    let f : s.queue.len ≤ length s.queue.entries = omega (arith, w) in
+    passes_all (of_rules s.ids.now s.ratings.now s.parties.now s.roles.now s.regions.now) s.constraints s.count s.sizes (queue_of s.queue) (le-ltb 64 s.queue.len (omega arith)) _ c.check_terms.ensures c.in_default.is (sym c.has_joined_over.ensures ∙ c.if-has_joined_over.false) (not_wide s.queue.entries s.queue.len f (omega arith))

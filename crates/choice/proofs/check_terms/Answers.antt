@@ -1,4 +1,5 @@
 -- The limits, the columns and the pairs, in this order.
+use native.Mathlib.Omega.{arith}
 use mathlib.Core.Path.{sym, ◌∙◌}
 use borrow.Author.Tests.{lt-ltb, le-ltb}
 use Rattle.base.proofs.Checks.{by_first, by_second}
@@ -19,16 +20,16 @@ returns-then-is_over-2 c =
 pub returns-then-count-gt8 : goal.returns-then-count-gt8
 returns-then-count-gt8 c =
     let s = c.args in
-    brings_1 (of_rules s.ids.now s.ratings.now s.parties.now s.roles.now s.regions.now) s.constraints s.count s.sizes (by_second _ (sym c.is_over.ensures ∙ c.if-is_over.false) (by_second _ (sym c.is_over-2.ensures ∙ c.if-is_over-2.false) (lt-ltb 8 s.count c.if-count-gt8.true)))
+    brings_1 (of_rules s.ids.now s.ratings.now s.parties.now s.roles.now s.regions.now) s.constraints s.count s.sizes (by_second _ (sym c.is_over.ensures ∙ c.if-is_over.false) (by_second _ (sym c.is_over-2.ensures ∙ c.if-is_over-2.false) (lt-ltb 8 s.count (omega arith))))
 
 pub returns-in-Refused : goal.returns-in-Refused
 returns-in-Refused c =
     let s = c.args in
-    let l = by_second _ (sym c.is_over.ensures ∙ c.if-is_over.false) (by_second _ (sym c.is_over-2.ensures ∙ c.if-is_over-2.false) (le-ltb 8 s.count c.if-count-gt8.false)) in
+    let l = by_second _ (sym c.is_over.ensures ∙ c.if-is_over.false) (by_second _ (sym c.is_over-2.ensures ∙ c.if-is_over-2.false) (le-ltb 8 s.count (omega arith))) in
     brings_columns (of_rules s.ids.now s.ratings.now s.parties.now s.roles.now s.regions.now) s.constraints s.count s.sizes l _ c.check_rules.ensures c.in-Refused.is
 
 pub returns : goal.returns
 returns c =
     let s = c.args in
-    let l = by_second _ (sym c.is_over.ensures ∙ c.if-is_over.false) (by_second _ (sym c.is_over-2.ensures ∙ c.if-is_over-2.false) (le-ltb 8 s.count c.if-count-gt8.false)) in
+    let l = by_second _ (sym c.is_over.ensures ∙ c.if-is_over.false) (by_second _ (sym c.is_over-2.ensures ∙ c.if-is_over-2.false) (le-ltb 8 s.count (omega arith))) in
     brings_pairs (of_rules s.ids.now s.ratings.now s.parties.now s.roles.now s.regions.now) s.constraints s.count s.sizes l _ c.check_rules.ensures c.in_default.is c.check_pairs.ensures

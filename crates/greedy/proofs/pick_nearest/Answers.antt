@@ -33,4 +33,4 @@ pub returns : goal.returns
 returns c =
     let s = c.args in
     let l = c.loop-i in
-    c.nearer_place-2.ensures ∙ found_even s.reference s.free.now s.n (s.n / 2) l.i c.loop-i-test.false l.invariant.0 l.invariant.1 l.invariant.2 c.if-half-n.false (omega arith)
+    c.nearer_place-2.ensures ∙ found_even s.reference s.free.now s.n (s.n / 2) l.i c.loop-i-test.false l.invariant.0 l.invariant.1 l.invariant.2 (omega arith) (omega arith)

@@ -1,4 +1,5 @@
 -- One law for each refusal, in the order of the definition.
+use native.Mathlib.Omega.{arith}
 use mathlib.Core.Path.{sym, ◌∙◌}
 use borrow.Author.Tests.{lt-ltb, le-ltb}
 use Rattle.base.proofs.Checks.{guard_refuses, guard_passes, at_limit, under_limit, by_first, by_second}
@@ -8,27 +9,27 @@ use Rattle.seating.proofs.searching.check_first.Goals as goal
 pub returns-then-waiting-gt64 : goal.returns-then-waiting-gt64
 returns-then-waiting-gt64 c =
     let s = c.args in
-    at_limit _ (by_first (sizes_over s.sizes) (lt-ltb 64 s.waiting c.if-waiting-gt64.true))
+    at_limit _ (by_first (sizes_over s.sizes) (lt-ltb 64 s.waiting (omega arith)))
 
 pub returns-then-is_over : goal.returns-then-is_over
 returns-then-is_over c =
     let s = c.args in
-    at_limit _ (by_second (sizes_over s.sizes) (le-ltb 64 s.waiting c.if-waiting-gt64.false) (sym c.is_over.ensures ∙ c.if-is_over.true))
+    at_limit _ (by_second (sizes_over s.sizes) (le-ltb 64 s.waiting (omega arith)) (sym c.is_over.ensures ∙ c.if-is_over.true))
 
 pub returns-in-Refused : goal.returns-in-Refused
 returns-in-Refused c =
     let s = c.args in
-    under_limit _ (by_second (sizes_over s.sizes) (le-ltb 64 s.waiting c.if-waiting-gt64.false) (sym c.is_over.ensures ∙ c.if-is_over.false))
+    under_limit _ (by_second (sizes_over s.sizes) (le-ltb 64 s.waiting (omega arith)) (sym c.is_over.ensures ∙ c.if-is_over.false))
     (guard_refuses _ c.check_ratings.result c.in-Refused.is c.check_ratings.ensures)
 
 pub returns-then-are_short : goal.returns-then-are_short
 returns-then-are_short c =
     let s = c.args in
-    under_limit _ (by_second (sizes_over s.sizes) (le-ltb 64 s.waiting c.if-waiting-gt64.false) (sym c.is_over.ensures ∙ c.if-is_over.false))
+    under_limit _ (by_second (sizes_over s.sizes) (le-ltb 64 s.waiting (omega arith)) (sym c.is_over.ensures ∙ c.if-is_over.false))
     (rw (sym c.are_short.ensures ∙ c.if-are_short.true) (guard_passes _ c.check_ratings.result c.in_default.is c.check_ratings.ensures))
 
 pub returns : goal.returns
 returns c =
     let s = c.args in
-    under_limit _ (by_second (sizes_over s.sizes) (le-ltb 64 s.waiting c.if-waiting-gt64.false) (sym c.is_over.ensures ∙ c.if-is_over.false))
+    under_limit _ (by_second (sizes_over s.sizes) (le-ltb 64 s.waiting (omega arith)) (sym c.is_over.ensures ∙ c.if-is_over.false))
     (rw (sym c.are_short.ensures ∙ c.if-are_short.false) (guard_passes _ c.check_ratings.result c.in_default.is c.check_ratings.ensures))
