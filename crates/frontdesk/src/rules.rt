@@ -153,7 +153,7 @@ fn latency(rules: Constraints, text: &[u8], heard: Heard, at: usize) -> Constrai
 
 const REQUIREMENT: u32 = fields::ROLE | fields::AT_LEAST | fields::AT_MOST;
 
-// `role 2 at_least_lem 1 at_most 2`: one requirement more.
+// `role 2 at-least 1 at-most 2`: one requirement more.
 fn role(rules: Constraints, text: &[u8], heard: Heard, at: usize) -> Constraints {
     let given = fields::read(text, heard, at, fields::ROLE, REQUIREMENT);
     if !given.ok {
