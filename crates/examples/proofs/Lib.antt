@@ -1,1 +1,2 @@
+pub mod AtTheTable
 pub mod BeamCopies

@@ -1,42 +1,33 @@
 -- Document 01, "At the table": the starred lines, as one theorem that ranges over a list of them; and lines of document 02.
-use Rattle.std.specs.Prelude.{ℕ, ◌-◌, ◌≡◌, refl, Bool, true, false, List, [], ◌∷◌, ◌++◌, map, Float, length, take, replicate}
+use Rattle.std.specs.Prelude.{ℕ, ◌-◌, ◌≡◌, Bool, true, false, List, [], ◌∷◌, ◌++◌, map, Float, length, take, replicate}
 use Rattle.std.proofs.Math.Option.{Option, none, some}
 use Rattle.std.specs.Float.{nan, inf, binary64}
-use Rattle.std.specs.Float.Ieee.{add, sub, mul, div, lt, le, eq, ne, is_nan, round, of_int, of_bits}
-use Rattle.base.specs.Floats.{zero, one, abs_of, min_of}
-use Rattle.base.specs.Lists.{All, seek, keep, remove_first, distinct}
-use Rattle.base.specs.Ranking.{insert_by}
+use Rattle.std.specs.Float.Ieee.{of_bits}
+use Rattle.base.specs.Floats.{zero, one}
 use Rattle.base.specs.Refusals.{Outcome, refused, gives}
-use Rattle.queue.specs.Time.{seconds_of}
 use Rattle.queue.specs.declared.QueueEntry.{QueueEntry}
-use Rattle.roster.specs.Roster.{Roster, of_ratings, observe}
-use Rattle.matchmaker.specs.Quality.{MatchState, four_hundred, quality_at, quality_of, observations, average_from}
-use Rattle.objective.specs.Pareto.{any_below, dominates_of, zeros}
-use Rattle.objective.specs.Score.{longer, score_from}
-use Rattle.objective.specs.Soft.{weighted, latency_at}
+use Rattle.roster.specs.Roster.{Roster, of_ratings}
+use Rattle.matchmaker.specs.Quality.{MatchState, four_hundred, quality_at, quality_of}
+use Rattle.objective.specs.Pareto.{dominates_of, zeros}
 use Rattle.objective.specs.declared.score.MatchObjective.{MatchObjective}
 use Rattle.objective.specs.declared.soft.SoftObjective.{SoftObjective}
 use Rattle.objective.specs.declared.soft.SoftObjective.TheVariants.{Wait}
 use Rattle.objective.specs.declared.pareto.MatchObjectiveVector.{MatchObjectiveVector}
 use Rattle.seating.specs.declared.TeamComposition.{TeamComposition}
-use Rattle.seating.specs.Seating.{Sheets, lineup, seats}
-use Rattle.seating.specs.Turns.{grown}
+use Rattle.seating.specs.Seating.{Sheets, lineup}
 use Rattle.constraint.specs.declared.Constraints.{Constraints}
-use Rattle.constraint.specs.Constraints.{party_seated}
-use Rattle.candidate.specs.Choices.{choices, ways}
 use Rattle.candidate.specs.Exhaustive.{exhaustive_matches}
 use Rattle.choice.specs.Full.{terms, chosen}
 use Rattle.hall.specs.declared.Booking.{Booking}
-use Rattle.hall.specs.Games.{unused, enough, circle}
-use Rattle.hall.specs.Hall.{HallState, awaiting, guest_alone, same, KeyRecord, logging, empty, book, withdraw, booking_answer, deal, answer_in, judge}
+use Rattle.hall.specs.Games.{unused, circle}
+use Rattle.hall.specs.Hall.{HallState, awaiting, guest_alone, KeyRecord, logging, empty, book, withdraw}
 use Rattle.hall.specs.Rounds as Rounds
 use Rattle.hall.specs.Rounds.{of_game, dispatch, calling, findings}
 use Rattle.demand.specs.Calls as Calls
 use Rattle.demand.specs.Calls.{Call, keyed, Answer, answered, handed, step, after, answers, mark_of, leave, thin, served_of}
 use Rattle.demand.specs.Runs.{Told}
-use Rattle.demand.proofs.Runs.{told_on}
-use Rattle.beam.specs.Beam.{expansions, stepped, steps, beam_of, beaming, beam_matches}
-use Rattle.greedy.specs.Greedy.{goes_before, closer, nearest, filled, anchored, greedy_matches}
+use Rattle.beam.specs.Beam.{beaming, beam_matches}
+use Rattle.greedy.specs.Greedy.{nearest, greedy_matches}
 
 -- 100.0, 0.75, and the ratings of the table's guests and of the entries about 1000; a booking brings the bits
 abbrev hundred : Float
@@ -172,11 +163,11 @@ abbrev handing : ℕ → List ℕ → List Float → ℕ → Option ℕ → Answ
 handing n players qualities tried served = handed (record { answer = gives n; sheets = sheets players qualities }) tried served
 
 -- game 0 is of 1+1, and the others are not used
-abbrev one_game : List TeamComposition
+abbrev pub one_game : List TeamComposition
 one_game = sizes 1 1 ∷ replicate 7 unused
 
 -- games 0 and 3 are of 1+1, game 5 is of 0+1, and the others are not used
-abbrev three_games : List TeamComposition
+abbrev pub three_games : List TeamComposition
 three_games = sizes 1 1 ∷ unused ∷ unused ∷ sizes 1 1 ∷ unused ∷ sizes 0 1 ∷ unused ∷ unused ∷ []
 
 -- eight games of one guest each
@@ -235,60 +226,60 @@ abbrev leaving : List TeamComposition → ℕ → List Booking → List KeyRecor
 leaving sizes served ws rs = record { waiting = awaiting ws; log = logging rs; sizes = sizes; served = served }
 
 -- the story of a phone that resends two bookings after a withdrawal and a round, in two parts: up to the round, and from there on
-abbrev phoning : List Call
+abbrev pub phoning : List Call
 phoning = booking 1 1 ∷ booking 2 2 ∷ booking 3 3 ∷ withdrawal 4 3 ∷ pairing ∷ []
 
-abbrev phoning_on : List Call
+abbrev pub phoning_on : List Call
 phoning_on = booking 1 1 ∷ booking 3 3 ∷ booking 5 1 ∷ booking 6 4 ∷ pairing ∷ []
 
 -- what each of these calls answers, and the hall in between and at the end
-abbrev phoned : List Answer
+abbrev pub phoned : List Answer
 phoned = accepted ∷ accepted ∷ accepted ∷ accepted ∷ paired 1 2 ∷ []
 
-abbrev phoned_on : List Answer
+abbrev pub phoned_on : List Answer
 phoned_on = accepted ∷ accepted ∷ accepted ∷ accepted ∷ paired 1 4 ∷ []
 
-abbrev phoned_hall : HallState
+abbrev pub phoned_hall : HallState
 phoned_hall = leaving one_game 255 [] (noted 1 1 ∷ noted 2 2 ∷ noted 3 3 ∷ withdrawn 4 3 ∷ [])
 
-abbrev phoned_end : HallState
+abbrev pub phoned_end : HallState
 phoned_end = leaving one_game 255 [] (noted 1 1 ∷ noted 2 2 ∷ noted 3 3 ∷ withdrawn 4 3 ∷ noted 5 1 ∷ noted 6 4 ∷ [])
 
 -- which of the calls of the second part are resends
-abbrev phone_again : List Bool
+abbrev pub phone_again : List Bool
 phone_again = true ∷ true ∷ false ∷ false ∷ false ∷ []
 
 -- the story of two games in their turn, in three parts: though game 0 has enough again, game 3 is served before it
-abbrev circling : List Call
+abbrev pub circling : List Call
 circling = booking_for 3 1 1 ∷ booking_for 3 2 2 ∷ booking 3 3 ∷ booking 4 4 ∷ dispatching ∷ []
 
-abbrev circling_on : List Call
+abbrev pub circling_on : List Call
 circling_on = booking 5 5 ∷ booking 6 6 ∷ dispatching ∷ []
 
-abbrev circling_last : List Call
+abbrev pub circling_last : List Call
 circling_last = dispatching ∷ dispatching ∷ []
 
-abbrev circled : List Answer
+abbrev pub circled : List Answer
 circled = accepted ∷ accepted ∷ accepted ∷ accepted ∷ paired_in (some 0) 3 4 ∷ []
 
-abbrev circled_on : List Answer
+abbrev pub circled_on : List Answer
 circled_on = accepted ∷ accepted ∷ paired_in (some 3) 1 2 ∷ []
 
-abbrev circled_last : List Answer
+abbrev pub circled_last : List Answer
 circled_last = paired_in (some 0) 5 6 ∷ handing 0 [] [] 0 none ∷ []
 
-abbrev circled_hall : HallState
+abbrev pub circled_hall : HallState
 circled_hall = leaving three_games 0 (waiter_for 3 1 ∷ waiter_for 3 2 ∷ []) (noted_for 3 1 1 ∷ noted_for 3 2 2 ∷ noted 3 3 ∷ noted 4 4 ∷ [])
 
-abbrev circled_hall_on : HallState
+abbrev pub circled_hall_on : HallState
 circled_hall_on =
     leaving three_games 3 (waiter 5 ∷ waiter 6 ∷ []) (noted_for 3 1 1 ∷ noted_for 3 2 2 ∷ noted 3 3 ∷ noted 4 4 ∷ noted 5 5 ∷ noted 6 6 ∷ [])
 
-abbrev circled_end : HallState
+abbrev pub circled_end : HallState
 circled_end = leaving three_games 0 [] (noted_for 3 1 1 ∷ noted_for 3 2 2 ∷ noted 3 3 ∷ noted 4 4 ∷ noted 5 5 ∷ noted 6 6 ∷ [])
 
 -- which calls of a list are resends
-abbrev resends : List Call → List Bool
+abbrev pub resends : List Call → List Bool
 resends cs = leave (replicate (length cs) true) [] cs
 
 pub data Line : Type 0 where
@@ -446,23 +437,3 @@ lines =
     (booking 1 1 ∷ booking 1 2 ∷ withdrawal 1 1 ∷ [])
     (refused 9 ∷ refused 7 ∷ refused 7 ∷ [])
     ∷ []
-
--- the two stories, told part by part: each part reckons from a hall that is written out
-phone_told : Told (empty one_game) (phoning ++ phoning_on) (phoned ++ phoned_on) phoned_end
-unfolding quality_at abs_of min_of dominates_of any_below seek keep party_seated observe observations average_from goes_before closer grown filled anchored insert_by expansions stepped steps beam_of seats seconds_of longer score_from choices ways enough findings step judge booking_answer deal same answer_in mark_of remove_first distinct weighted latency_at mul add div sub lt le eq ne is_nan of_int of_bits round
-phone_told = told_on (empty one_game) phoned_hall phoned_end phoning phoning_on phoned phoned_on (record { answered = refl; left = refl }) (record { answered = refl; left = refl })
-
--- and without the resends
-phone_thinned : Told (empty one_game) (phoning ++ thin phone_again phoning_on) (phoned ++ thin phone_again phoned_on) phoned_end
-unfolding quality_at abs_of min_of dominates_of any_below seek keep party_seated observe observations average_from goes_before closer grown filled anchored insert_by expansions stepped steps beam_of seats seconds_of longer score_from choices ways enough findings step judge booking_answer deal same answer_in mark_of remove_first distinct weighted latency_at mul add div sub lt le eq ne is_nan of_int of_bits round
-phone_thinned = told_on (empty one_game) phoned_hall phoned_end phoning (thin phone_again phoning_on) phoned (thin phone_again phoned_on) (record { answered = refl; left = refl }) (record { answered = refl; left = refl })
-
-circle_told : Told (empty three_games) (circling ++ (circling_on ++ circling_last)) (circled ++ (circled_on ++ circled_last)) circled_end
-unfolding quality_at abs_of min_of dominates_of any_below seek keep party_seated observe observations average_from goes_before closer grown filled anchored insert_by expansions stepped steps beam_of seats seconds_of longer score_from choices ways enough findings step judge booking_answer deal same answer_in mark_of remove_first distinct weighted latency_at mul add div sub lt le eq ne is_nan of_int of_bits round
-circle_told =
-    told_on (empty three_games) circled_hall circled_end circling (circling_on ++ circling_last) circled (circled_on ++ circled_last) (record { answered = refl; left = refl })
-    (told_on circled_hall circled_hall_on circled_end circling_on circling_last circled_on circled_last (record { answered = refl; left = refl }) (record { answered = refl; left = refl }))
-
-pub at_the_table : All Holds lines
-unfolding quality_at abs_of min_of dominates_of any_below seek keep party_seated observe observations average_from goes_before closer grown filled anchored insert_by expansions stepped steps beam_of seats seconds_of longer score_from choices ways enough findings step judge booking_answer deal same answer_in mark_of remove_first distinct weighted latency_at mul add div sub lt le eq ne is_nan of_int of_bits round
-at_the_table = (refl, (refl, (refl, (refl, (refl, (refl, ((refl, refl), ((refl, refl), (refl, (refl, (refl, (refl, (refl, (refl, ((refl, (record { answered = refl; left = refl }, record { answered = refl; left = refl })), ((refl, refl), ((refl, refl), ((refl, refl), ((refl, refl), ((refl, (phone_told, phone_thinned)), (refl, (refl, (refl, (refl, (refl, (refl, (refl, (refl, (refl, (refl, (refl, ((refl, (circle_told, circle_told)), ((refl, (record { answered = refl; left = refl }, record { answered = refl; left = refl })), (refl, ((refl, (record { answered = refl; left = refl }, record { answered = refl; left = refl })), ((refl, refl), ((refl, (record { answered = refl; left = refl }, record { answered = refl; left = refl })), ((refl, (record { answered = refl; left = refl }, record { answered = refl; left = refl })), ((refl, refl), ((refl, refl), ((refl, refl), ((refl, refl), ((refl, refl), (record { answered = refl; left = refl }, (record { answered = refl; left = refl }, tt)))))))))))))))))))))))))))))))))))))))))))))
