@@ -15,3 +15,4 @@ pub mod Equal
 pub mod Nan
 pub mod Highest
 pub mod Sorting
+pub mod Chains

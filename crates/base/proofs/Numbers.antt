@@ -3,10 +3,10 @@ use Prim.Native.Nat.{ℕ, zero, suc}
 use mathlib.Core.Path.{◌≡◌, refl}
 use mathlib.Core.Bool.{false}
 use lib.Dec.{eqb}
-use Rattle.base.specs.Refusals.{refused, gives, refusal_number, checked_of}
+use Rattle.base.specs.Refusals.{refused, gives, refusal_number, outcome_of}
 use Rattle.base.specs.Numbers.{refusal_of, outcome_in}
-use Rattle.base.specs.declared.Checked.{Checked}
-use Rattle.base.specs.declared.Checked.TheVariants.{Passed, Refused}
+use Rattle.std.specs.Prelude.{Result}
+use Rattle.std.specs.Prelude.{Ok, Err}
 use Rattle.base.specs.declared.Refusal.{Refusal}
 use Rattle.base.specs.declared.Refusal.TheVariants.{OverLimit, BadRoster, ShortSheet, Clock, Unranked, TooWide, KeyClash, BookFull, AlreadyWaiting, HallFull, NotWaiting, NoSeats, NoGame}
 use Rattle.base.proofs.Cases.{never}
@@ -42,6 +42,6 @@ number_back zero = refl
 number_back (suc n) = refl
 
 -- a check, back from its number
-pub checked_back : (k : Checked) → outcome_in (refusal_of (checked_of k)) tt ≡ checked_of k
-checked_back Passed = refl
-checked_back (Refused x) = refusal_back x tt
+pub checked_back : (k : Result Unit Refusal) → outcome_in (refusal_of (outcome_of k)) tt ≡ outcome_of k
+checked_back (Ok u) = refl
+checked_back (Err x) = refusal_back x tt

@@ -28,13 +28,6 @@ pub enum Refusal {
     NoGame,
 }
 
-// What a check answers.
-#[derive(Clone, Copy)]
-pub enum Checked {
-    Passed,
-    Refused(Refusal),
-}
-
 impl Refusal {
     // The refusal's number in the table.
     pub fn number(self) -> u8
@@ -123,15 +116,9 @@ pub fn at_most(n: usize, limit: usize) -> usize
 }
 
 // Is the number among these?
+#[tactic(auto, using(crate::proofs::Chains::any_of_list))]
 pub fn is_among(numbers: &[u64], number: u64) -> bool
     ensures { result ≡ member number numbers.now }
 {
-    let mut i: usize = 0;
-    while i < numbers.len() {
-        if numbers[i] == number {
-            return true;
-        }
-        i += 1;
-    }
-    false
+    numbers.contains(&number)
 }

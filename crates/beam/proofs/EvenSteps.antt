@@ -4,7 +4,7 @@ use Prim.Native.Nat.{ℕ, zero, suc, ◌+◌, ◌-◌, ◌≤◌, ◌<◌}
 use mathlib.Core.Path.{◌≡◌, refl, sym, ap, ◌∙◌, subst}
 use mathlib.Core.Bool.{Bool, true, false, not, cond, ◌||◌, or-false, or-true}
 use mathlib.Core.List.{List, [], ◌∷◌, ◌++◌, map}
-use mathlib.Core.Option.{Option, none, some}
+use Rattle.std.specs.Prelude.{Option, None, Some}
 use native.Mathlib.Omega.{arith}
 use borrow.Author.Tests.{eqb-true, eq-eqb}
 use lib.Dec.{eqb}
@@ -77,11 +77,11 @@ module _ (s : TeamComposition) (anchor : ℕ) (some-a : 1 ≤ s.a) (m : MatchSta
 
 -- the first of a list, if there is one
 abbrev pub first : {A : Type 0} → List A → Option A
-first [] = none
-first (x ∷ xs) = some x
+first [] = None
+first (x ∷ xs) = Some x
 
 -- where all are complete the first complete one is the first
-first_complete_lem : (s : TeamComposition) (ms : List MatchState) → All (λ m. complete s m ≡ true) ms → seek (complete s) some none ms ≡ first ms
+first_complete_lem : (s : TeamComposition) (ms : List MatchState) → All (λ m. complete s m ≡ true) ms → seek (complete s) Some None ms ≡ first ms
 unfolding seek
 first_complete_lem s [] h = refl
 first_complete_lem s (m ∷ ms) h = rw h.0

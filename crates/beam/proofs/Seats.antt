@@ -3,7 +3,7 @@ use Prim.Native.Nat.{ℕ, zero, suc, ◌≤◌}
 use mathlib.Core.Path.{◌≡◌, refl, sym, ap, ◌∙◌, subst}
 use mathlib.Core.Bool.{Bool, true, false, not, cond, ◌&&◌, ◌||◌}
 use mathlib.Core.List.{List, [], ◌∷◌, ◌++◌, map, foldl, append-nil}
-use mathlib.Core.Option.{Option, none, some}
+use Rattle.std.specs.Prelude.{Option, None, Some}
 use native.Mathlib.Omega.{arith}
 use borrow.Author.Tests.{eqb-true}
 use lib.Dec.{eqb}
@@ -84,8 +84,8 @@ formed_count s (m ∷ ms) f =
 module _ (g : Beaming) (queue : List QueueEntry) where
   -- nobody, or a full match of players who are not used
   abbrev Found : List ℕ → Option MatchState → Type 0
-  Found used none = Unit {0}
-  Found used (some m) = Fresh used (waiting_of queue) m × (complete g.sizes m ≡ true)
+  Found used None = Unit {0}
+  Found used (Some m) = Fresh used (waiting_of queue) m × (complete g.sizes m ≡ true)
 
   -- an anchor's answer: refusal 5, or one of these
   abbrev Answered : List ℕ → Outcome (Option MatchState) → Type 0
@@ -93,7 +93,7 @@ module _ (g : Beaming) (queue : List QueueEntry) where
   Answered used (gives o) = Found used o
 
   -- the first complete one of such partial matches
-  first_found : (used : List ℕ) (ms : List MatchState) → All (Fresh used (waiting_of queue)) ms → Found used (seek (complete g.sizes) some none ms)
+  first_found : (used : List ℕ) (ms : List MatchState) → All (Fresh used (waiting_of queue)) ms → Found used (seek (complete g.sizes) Some None ms)
   unfolding seek
   first_found used [] a = tt
   first_found used (m ∷ ms) a = cases (complete g.sizes m) (λ t. rw t (a.0, t)) (λ t. rw t (first_found used ms a.1))
@@ -123,8 +123,8 @@ module _ (g : Beaming) (queue : List QueueEntry) where
   -- what comes of an anchor's answer
   formed_sound : (ms : List MatchState) (x : Outcome (Option MatchState)) → Sound ms → Answered (seats ms) x → Outcomes (formed_with ms x)
   formed_sound ms (refused n) h a = a
-  formed_sound ms (gives none) h a = h
-  formed_sound ms (gives (some m)) h a =
+  formed_sound ms (gives None) h a = h
+  formed_sound ms (gives (Some m)) h a =
       record {
         matched = seated_add (seats ms) (waiting_of queue) ms m h.matched (within_self (seats ms)) a.0.free;
         formed = all_append (Formed g.sizes) ms (m ∷ []) h.formed (fresh_formed g.sizes (seats ms) (waiting_of queue) m a.0 a.1, tt);
@@ -208,7 +208,7 @@ module _ (g : Beaming) (queue : List QueueEntry) (narrow : g.width ≡ 0) where
         let b = steps g used queue (seats_left g.sizes) (starting_from p) in
         let e = none_kept used (seats_left g.sizes) (starting_from p) left in
         pick (λ x. Unchanged ms (formed_with ms x)) b.unranked tt
-        (subst (λ (l : List MatchState). Unchanged ms (formed_with ms (gives (seek (complete g.sizes) some none l)))) (sym e) refl)
+        (subst (λ (l : List MatchState). Unchanged ms (formed_with ms (gives (seek (complete g.sizes) Some None l)))) (sym e) refl)
 
     -- one more anchor forms nothing
     none_after : (x : Outcome (List MatchState)) (e : QueueEntry) → Unchanged [] x → Unchanged [] (anchored_after g queue x e)
@@ -242,12 +242,12 @@ distinct_middle (x ∷ xs) y ys d =
 
 module _ (g : Beaming) (queue : List QueueEntry) (one : g.sizes.a ≡ 1) (nobody : g.sizes.b ≡ 0) where
   -- the anchor alone is complete
-  found_alone : (used : List ℕ) (p : ℕ) → beam_of g used queue p ≡ gives (some (alone p))
+  found_alone : (used : List ℕ) (p : ℕ) → beam_of g used queue p ≡ gives (Some (alone p))
   unfolding beam_of steps seek
   found_alone used p =
       let c : complete g.sizes (alone p) ≡ true = λ j. eqb 1 (one j) && eqb 0 (nobody j) in
       let e : seats_left g.sizes ≡ 0 = omega arith in
-      ap (λ (k : ℕ). concluded g.sizes (steps g used queue k (starting_from p))) e ∙ ap (λ (b : Bool). gives (cond b (some (alone p)) none)) c
+      ap (λ (k : ℕ). concluded g.sizes (steps g used queue k (starting_from p))) e ∙ ap (λ (b : Bool). gives (cond b (Some (alone p)) None)) c
 
   -- anchors of whom none is seated yet form a match each
   each_alone : (es : List QueueEntry) (ms : List MatchState) → Distinct (seats ms ++ waiting_of es) → foldl (anchored_after g queue) (gives ms) es ≡ gives (ms ++ map (λ e. alone e.player) es)

@@ -1,7 +1,6 @@
 -- Document 01, "Beam (`BeamSearch::search`)".
-use Rattle.std.specs.Prelude.{ℕ, zero, suc, Bool, false, not, cond, ◌||◌, ltb, Float, length, take}
+use Rattle.std.specs.Prelude.{ℕ, zero, suc, Bool, false, not, cond, ◌||◌, ltb, Float, length, take, Option, None, Some}
 use mathlib.Core.List.{List, [], ◌∷◌, ◌++◌, map, foldl}
-use Rattle.std.proofs.Math.Option.{Option, none, some}
 use Rattle.base.specs.Refusals.{Outcome, refused, gives, guarded}
 use Rattle.base.specs.Lists.{seek, any, keep, member}
 use Rattle.base.specs.Ranking.{higher, sort_by, unrankable}
@@ -59,7 +58,7 @@ starting_from anchor = record { partials = alone anchor ∷ []; unranked = false
 
 -- "The first complete one", if there is one
 abbrev pub concluded : TeamComposition → Beam → Outcome (Option MatchState)
-concluded s b = cond b.unranked (refused 5) (gives (seek (complete s) some none b.partials))
+concluded s b = cond b.unranked (refused 5) (gives (seek (complete s) Some None b.partials))
 
 -- a step for each seat that is left
 unfoldable pub beam_of : Beaming → List ℕ → List QueueEntry → ℕ → Outcome (Option MatchState)
@@ -70,8 +69,8 @@ beam_of g used queue anchor = concluded g.sizes (steps g used queue (seats_left 
 -- what is found "is formed and its guests are used .. Otherwise only the anchor is freed", so just the seated are used
 abbrev pub formed_with : List MatchState → Outcome (Option MatchState) → Outcome (List MatchState)
 formed_with ms (refused n) = refused n
-formed_with ms (gives none) = gives ms
-formed_with ms (gives (some m)) = gives (ms ++ (m ∷ []))
+formed_with ms (gives None) = gives ms
+formed_with ms (gives (Some m)) = gives (ms ++ (m ∷ []))
 
 -- a used anchor is skipped, as greedy skips it; behind a refusal nothing follows
 abbrev pub anchored_after : Beaming → List QueueEntry → Outcome (List MatchState) → QueueEntry → Outcome (List MatchState)

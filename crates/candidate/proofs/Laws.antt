@@ -1,32 +1,28 @@
 -- Laws of the nearest generator over plain lists: what is read, how many matches there are and who sits in them, and the order of
 -- places against that of entries.
-use Prim.Native.Nat.{ℕ, zero, suc, ◌+◌, ◌-◌, ◌*◌, ◌≤◌, ◌<◌}
-use mathlib.Core.Path.{◌≡◌, refl, sym, ap, ◌∙◌, subst}
+use Prim.Native.Nat.{ℕ, zero, suc, ◌+◌, ◌-◌, ◌*◌, ◌/◌, ◌%◌, ◌≤◌, ◌<◌, min}
+use mathlib.Core.Path.{◌≡◌, refl, sym, ap, ◌∙◌}
 use mathlib.Core.Bool.{Bool, true, false, cond, ◌||◌}
-use mathlib.Core.List.{List, [], ◌∷◌, ◌++◌, map, map-map, map-append}
-use mathlib.Core.Option
-use native.Mathlib.Nat.{le_of_suc-le-suc, not-suc-le-zero, suc-mul, mul-le-mul_right}
-use native.Mathlib.Numerals.{add-one}
+use mathlib.Core.List.{List, [], ◌∷◌, ◌++◌, map, map-map}
+use Rattle.std.specs.Prelude.{unwrap_or, Result, Ok, Err}
+use native.Mathlib.Nat.{le_of_suc-le-suc, not-suc-le-zero, suc-mul}
 use native.Mathlib.Omega.{arith}
-use borrow.Author.Tests.{lt-ltb, le-ltb, eq-eqb, ne_eqb}
+use Rattle.std.proofs.lemmas.Nat.{div-mul-add, div-add-mod', div_below}
+use borrow.Author.Tests.{lt-ltb, le-ltb, ltb-true, ltb-false, eq-eqb, ne_eqb}
 use lib.Dec.{ltb, eqb}
 use lib.Ieee.{Float}
-use lib.ListN.{length, take, drop, get_or, set, replicate, length-map, length-drop, length-append, length-take, length-replicate, get_or-map}
-use lib.Seq.{length-take-le, take_all, take-nil, take-take, take-add, take_at, get_or-take, get_or-drop}
-use borrow.Rule.Slice.PartMut.{put_mid}
-use Rattle.base.specs.declared.Checked.{Checked}
-use Rattle.base.specs.declared.Checked.TheVariants.{Passed, Refused}
+use lib.ListN.{length, take, drop, get_or, replicate, length-map, length-drop, length-append, length-take, length-replicate, get_or-map}
+use lib.Seq.{length-take-le, take_all, take-take, take_at, get_or-take}
 use Rattle.base.specs.declared.Refusal.{Refusal}
 use Rattle.base.specs.Floats as Floats
 use Rattle.base.specs.Lists.{any, All, places_from}
-use Rattle.base.specs.Refusals.{Outcome, refused, gives, guarded, refusal_number, checked_of}
+use Rattle.base.specs.Refusals.{Outcome, refused, gives, guarded, refusal_number, outcome_of}
 use Rattle.base.specs.Ranking.{unrankable, lower, sort_by}
 use Rattle.base.specs.Sheets.{laid}
 use Rattle.base.proofs.Arrays.{take_map}
 use Rattle.base.proofs.Cases.{cases, never}
-use Rattle.base.proofs.All.{all_take, place_below}
+use Rattle.base.proofs.All.{all_take}
 use Rattle.base.proofs.Places.{listed_places}
-use Rattle.base.proofs.Sheets.{copy_on}
 use Rattle.base.proofs.Sorting.{sort_map}
 use Rattle.queue.specs.declared.QueueEntry.{QueueEntry}
 use Rattle.queue.specs.Queue.{QueueState, joined_over}
@@ -45,77 +41,64 @@ use Rattle.seating.specs.Seating.{Sheets, sizes_over, are_short, seats_of, seats
 use Rattle.seating.specs.Searching.{search_check}
 use Rattle.seating.specs.Steps.{overlaid}
 use Rattle.seating.proofs.Handing.{handed_refused, handed_on, handed_out_lem}
-use Rattle.seating.proofs.Laws.{overlaid_cut, lent_second, length_seats}
+use Rattle.seating.proofs.Laws.{length_seats}
 use Rattle.candidate.specs.Nearest.{thousand, rating_for, rising, chunks, nearest_matches, cannot_rank, nearest_rule, rating_by}
 use Rattle.candidate.specs.Steps.{how_many}
 use Rattle.candidate.proofs.Chunks.{consecutive, exact, length_rising, matches_fit, seats_fit}
 
 -- ---- what is read
 
--- what f makes of the one at a place stands there
-made_at : {A B : Type 0} (f : A → B) (xs : List A) (i : ℕ) (d : B) (e : A) → i < length xs → get_or (map f xs) i d ≡ f (get_or xs i e)
-made_at f [] i d e h = absurd (not-suc-le-zero h)
-made_at f (x ∷ xs) zero d e h = refl
-made_at f (x ∷ xs) (suc i) d e h = made_at f xs i d e (le_of_suc-le-suc h)
-
--- the rows of the first n players, behind a check that passed
-rows_front : (ids players sheet : List ℕ) (o : Outcome Unit) (n : ℕ) {rows : List ℕ} → o ≡ gives tt → rows ≡ found_rows o ids (take n players) sheet → n ≤ length players → n ≤ length sheet → take n rows ≡ map (λ p. row_of p ids) (take n players)
+-- the rows of the players, behind a check that passed
+rows_front : (ids players sheet : List ℕ) (o : Outcome Unit) {rows : List ℕ} → o ≡ gives tt → rows ≡ found_rows o ids players sheet → length players ≤ length sheet → take (length players) rows ≡ map (λ p. row_of p ids) players
 unfolding laid
-rows_front ids players sheet o n p e fits room =
+rows_front ids players sheet o p e room =
     let f : ℕ → ℕ = λ x. row_of x ids in
-    let xs = take n players in
-    let m : length (map f xs) ≡ n = length-map xs f ∙ length-take-le n players fits in
-    let w : take (length sheet) (map f xs) ≡ map f xs = take_all (length sheet) (map f xs) (omega arith) in
-    ap (take n) (e ∙ ap (λ (q : Outcome Unit). found_rows q ids xs sheet) p ∙ ap (λ (r : List ℕ). r ++ drop (0 + length r) sheet) w)
-    ∙ take_at (map f xs) _ n m
+    let m : length (map f players) ≡ length players = length-map players f in
+    let w : take (length sheet) (map f players) ≡ map f players = take_all (length sheet) (map f players) (omega arith) in
+    ap (take (length players)) (e ∙ ap (λ (q : Outcome Unit). found_rows q ids players sheet) p ∙ ap (λ (r : List ℕ). r ++ drop (0 + length r) sheet) w)
+    ∙ take_at (map f players) _ (length players) m
 
 -- a roster that passes has as many ratings as rows
 even : (ids : List ℕ) (ratings : List Float) → ratings_check (of_ratings ids ratings) ≡ gives tt → length ratings ≡ length ids
 even ids ratings e =
-    (even_first (length ids) (length ratings) [] (passed_even ids (length ratings ∷ []) [] Passed refl (sym e))).0
+    (even_first (length ids) (length ratings) [] (passed_even ids (length ratings ∷ []) [] (Ok tt) refl (sym e))).0
 
 -- the rating in a row, or 1000.0
 abbrev pub rating_in : List Float → ℕ → Float
-rating_in ratings row = Option.get_or (value_at ratings row) thousand
+rating_in ratings row = unwrap_or (value_at ratings row) thousand
 
 -- what is read in the players' rows are their ratings
 read : (ids : List ℕ) (ratings : List Float) (ps : List ℕ) → length ratings ≡ length ids → map (rating_in ratings) (map (λ p. row_of p ids) ps) ≡ map (rating_by (of_ratings ids ratings)) ps
 read ids ratings [] l = refl
 read ids ratings (p ∷ ps) l = rw (value_observed p ids ratings l, read ids ratings ps l)
 
--- the ratings in the first n rows that were found are those of the first n players
-pub ratings_read : (ids players sheet : List ℕ) (ratings : List Float) (n i : ℕ) (out : List Float) {rows : List ℕ} → ratings_check (of_ratings ids ratings) ≡ gives tt → rows ≡ found_rows (ratings_check (of_ratings ids ratings)) ids (take n players) sheet → n ≤ length players → n ≤ length sheet → i ≡ n → take i out ≡ map (rating_in ratings) (take i rows) → take n out ≡ map (rating_by (of_ratings ids ratings)) (take n players)
-ratings_read ids players sheet ratings n i out {rows} p e fits room h inv =
-    subst (λ (k : ℕ). take k out ≡ map (rating_in ratings) (take k rows)) h inv
-    ∙ ap (map (rating_in ratings)) (rows_front ids players sheet (ratings_check (of_ratings ids ratings)) n p e fits room)
-    ∙ read ids ratings (take n players) (even ids ratings p)
+-- the ratings in the rows that were found are those of the players
+pub ratings_read : (ids players sheet : List ℕ) (ratings : List Float) {rows : List ℕ} → ratings_check (of_ratings ids ratings) ≡ gives tt → rows ≡ found_rows (ratings_check (of_ratings ids ratings)) ids players sheet → length players ≤ length sheet → map (rating_in ratings) (take (length players) rows) ≡ map (rating_by (of_ratings ids ratings)) players
+ratings_read ids players sheet ratings p e room =
+    ap (map (rating_in ratings)) (rows_front ids players sheet (ratings_check (of_ratings ids ratings)) p e room)
+    ∙ read ids ratings players (even ids ratings p)
 
 -- ---- how many matches
 
-module _ (seats : ℕ) where
-  many_none : (k left : ℕ) → left < seats → how_many seats k left ≡ 0
-  unfolding how_many
-  many_none zero left h = refl
-  many_none (suc k) left h = rw (lt-ltb left seats h)
-
-  -- so many matches, and those that the rest fills
-  module _ (count limit left : ℕ) {w : ℕ} (inv : count + how_many seats (limit - count) left ≡ w) where
-    -- one more
-    pub many_on : seats ≤ left → count < limit → (count + 1) + how_many seats (limit - (count + 1)) (left - seats) ≡ w
-    unfolding how_many
-    many_on h k =
-        let j : limit - count ≡ suc (limit - (count + 1)) = omega arith in
-        let g = rw (j, le-ltb left seats h) at inv in
-        omega arith
-
-    -- the limit is reached
-    pub many_full : limit ≤ count → count ≡ w
-    unfolding how_many
-    many_full h = let z : limit - count ≡ 0 = omega arith in let g = rw z at inv in omega arith
-
-    -- too few are left
-    pub many_end : left < seats → count ≡ w
-    many_end h = let g : how_many seats (limit - count) left ≡ 0 = many_none (limit - count) left h in omega arith
+-- as many as n players fill, at most the limit
+pub many_divided : (size limit n : ℕ) → 0 < size → min (n / size) limit ≡ how_many size limit n
+unfolding how_many
+many_divided size zero n h = omega arith
+many_divided size (suc k) n h =
+    cases (ltb n size)
+    (λ t.
+    let z : n / size ≡ 0 = let b = div_below n size 1 h (omega (arith, ltb-true n size t)) in omega arith in
+    rw (t, z) (omega arith))
+    (λ f.
+    let q = (n - size) / size in
+    let r = (n - size) % size in
+    let e : q * size + r ≡ n - size = div-add-mod' (n - size) size in
+    let l : size ≤ n = ltb-false n size f in
+    let m : r < size = omega arith in
+    let g : suc q * size + r ≡ n = omega (arith, suc-mul q size) in
+    let d : n / size ≡ suc q = ap (λ (j : ℕ). j / size) (sym g) ∙ div-mul-add (suc q) size r m in
+    let i = many_divided size k (n - size) h in
+    rw (f, d) (omega arith))
 
 -- ---- the matches, laid one behind another
 
@@ -156,63 +139,6 @@ module _ (s : TeamComposition) where
   chunks_short zero ps h = refl
   chunks_short (suc k) ps h = rw (lt-ltb (length ps) (seats_of s) h)
 
--- ---- players written in the order of their places
-
--- the players at the first n places
-abbrev pub at_places : List ℕ → List ℕ → ℕ → List ℕ
-at_places ws places n = map (λ p. get_or ws p 0) (take n places)
-
--- what holds of the first n holds of a part of them
-pub all_part : {A : Type 0} (P : A → Type 0) (at k n : ℕ) (xs : List A) → at + k ≤ n → All P (take n xs) → All P (take k (drop at xs))
-all_part P zero k n xs h a = rw (← take-take k n xs (omega arith)) (all_take P k (take n xs) a)
-all_part P (suc at) k n [] h a = rw (take-nil k) tt
-all_part P (suc at) k zero (x ∷ xs) h a = absurd (omega arith)
-all_part P (suc at) k (suc n) (x ∷ xs) h a = all_part P at k n xs (omega arith) a.1
-
--- one match: the players at n places from `at` on, over the front of a part of the sheet
-module _ (ws places : List ℕ) (at n : ℕ) (fits : at + n ≤ length places) where
-  abbrev row : List ℕ
-  row = at_places ws (drop at places) n
-
-  held : n ≤ length (drop at places)
-  held = omega (arith, length-drop at places)
-
-  length_at : length row ≡ n
-  length_at = length-map (take n (drop at places)) (λ p. get_or ws p 0) ∙ length-take-le n (drop at places) held
-
-  -- each place is in range where it is read
-  pub seat_below : (m i : ℕ) → i < n → All (λ p. p < m) (take n (drop at places)) → get_or places (at + i) 0 < m
-  seat_below m i h a = rw (get_or-drop at places i 0) at (place_below m (drop at places) n i held h a)
-
-  -- one more is written
-  pub seat_on : (part now : List ℕ) (i : ℕ) → now ≡ take i row ++ drop i part → i < n → i < length part → set now i (get_or ws (get_or places (at + i) 0) 0) ≡ take (i + 1) row ++ drop (i + 1) part
-  seat_on part now i inv h room =
-      let e : get_or row i 0 ≡ get_or ws (get_or places (at + i) 0) 0 =
-      made_at (λ p. get_or ws p 0) (take n (drop at places)) i 0 0 (rw (length-take-le n (drop at places) held) h)
-      ∙ ap (λ (p : ℕ). get_or ws p 0) (get_or-take n (drop at places) i 0 h ∙ get_or-drop at places i 0) in
-      rw (inv, ← e) (copy_on row part 0 i (omega (arith, length_at)) room)
-
-  -- all are written
-  pub seat_end : (part now : List ℕ) (i : ℕ) → now ≡ take i row ++ drop i part → i ≡ n → n ≤ length part → now ≡ overlaid row part
-  seat_end part now i inv e room = inv ∙ overlaid_cut row part i (omega (arith, length_at))
-
--- a match more, in the part that was lent behind the matches so far
-pub match_on : (ws places : List ℕ) (at seats : ℕ) (sheet now : List ℕ) {l : List ℕ} → at ≤ length places → at ≤ length sheet → now ≡ overlaid (at_places ws places at) sheet → l ≡ overlaid (at_places ws (drop at places) seats) (take (length now - at) (drop at now)) → put_mid at (length now - at) now l ≡ overlaid (at_places ws places (at + seats)) sheet
-match_on ws places at seats sheet now fits room inv h =
-    let f : ℕ → ℕ = λ p. get_or ws p 0 in
-    let n : length (at_places ws places at) ≡ at = length-map (take at places) f ∙ length-take-le at places fits in
-    let e : at_places ws places at ++ at_places ws (drop at places) seats ≡ at_places ws places (at + seats) =
-    sym (map-append f (take at places) (take seats (drop at places))) ∙ ap (map f) (sym (take-add at seats places)) in
-    lent_second (at_places ws places at) (at_places ws (drop at places) seats) sheet at (omega (arith, n)) inv h ∙ ap (λ (r : List ℕ). overlaid r sheet) e
-
--- the matches so far and one more seat no more than all
-pub match_fits : (count seats i : ℕ) → i < count → i * seats + seats ≤ count * seats
-match_fits count seats i h = let e = mul-le-mul_right seats h in omega (arith, e, suc-mul i seats)
-
--- and they are one match more
-pub match_counts : (seats i at : ℕ) → at ≡ i * seats → at + seats ≡ (i + 1) * seats
-match_counts seats i at e = rw (e, add-one i) (sym (suc-mul i seats))
-
 -- ---- the order of places, and that of entries
 
 -- the player at a place
@@ -244,15 +170,13 @@ same_ratings r es n e =
     ap (λ (ws : List ℕ). map (rating_by r) (take n ws)) e ∙ ap (map (rating_by r)) (take_map (λ (x : QueueEntry). x.player) n es)
     ∙ map-map (rating_by r) (λ (x : QueueEntry). x.player) (take n es)
 
--- what an order of the players by rating says of the entries, by its answer
-module _ (r : Roster) (es : List QueueEntry) (n : ℕ) (o : Ascent) {ws : List ℕ} (w : ws ≡ map (λ e. e.player) es) (h : ascent_of o ≡ rising_rule (map (rating_by r) (take n ws))) where
-  pub order_refused : {x : Refusal} → o.answer ≡ Refused x → refused (refusal_number x) ≡ rising_rule (map (rating_for r) (take n es))
-  order_refused e =
-      ap (λ (k : Checked). guarded (checked_of k) (gives (take o.len o.places))) (sym e) ∙ h ∙ ap rising_rule (same_ratings r es n w)
+-- what an order of the players by rating, or its refusal, says of the entries
+module _ (r : Roster) (es : List QueueEntry) (n : ℕ) (o : Result Ascent Refusal) {ws : List ℕ} (w : ws ≡ map (λ e. e.player) es) (h : ascent_of o ≡ rising_rule (map (rating_by r) (take n ws))) where
+  pub order_refused : {x : Refusal} → o ≡ Err x → refused (refusal_number x) ≡ rising_rule (map (rating_for r) (take n es))
+  order_refused e = ap ascent_of (sym e) ∙ h ∙ ap rising_rule (same_ratings r es n w)
 
-  pub order_given : o.answer ≡ Passed → gives (take o.len o.places) ≡ rising_rule (map (rating_for r) (take n es))
-  order_given e =
-      ap (λ (k : Checked). guarded (checked_of k) (gives (take o.len o.places))) (sym e) ∙ h ∙ ap rising_rule (same_ratings r es n w)
+  pub order_given : {a : Ascent} → o ≡ Ok a → gives (take a.len a.places) ≡ rising_rule (map (rating_for r) (take n es))
+  order_given e = ap ascent_of (sym e) ∙ h ∙ ap rising_rule (same_ratings r es n w)
 
 -- the first k of an order's places hold the first k of the players by rising rating
 pub seated_row : (r : Roster) (es : List QueueEntry) (n k len : ℕ) (places : List ℕ) {ws : List ℕ} → n ≤ length es → k ≤ n → ws ≡ map (λ e. e.player) es → take len places ≡ map (λ (x : Ranked). x.place) (sort_by (lower ranked_score) (numbered 0 (map (rating_for r) (take n es)))) → (All (λ p. p < n) (take k places)) × (map (λ p. get_or ws p 0) (take k places) ≡ take k (map (λ (e : QueueEntry). e.player) (rising r (take n es))))
@@ -290,25 +214,25 @@ roster_passing true o rest h = never cc
 roster_passing false (refused n) rest h = never cc
 roster_passing false (gives v) rest h = refl
 
-pub passed_roster : (s : TeamComposition) (r : Roster) (q : QueueState) (players qualities : ℕ) (k : Checked) → k ≡ Passed → checked_of k ≡ search_check s r q players qualities → ratings_check r ≡ gives tt
+pub passed_roster : (s : TeamComposition) (r : Roster) (q : QueueState) (players qualities : ℕ) (k : Result Unit Refusal) → k ≡ Ok tt → outcome_of k ≡ search_check s r q players qualities → ratings_check r ≡ gives tt
 passed_roster s r q players qualities k e h =
     let p : gives tt ≡ search_check s r q players qualities = rw e at h in
     roster_passing (ltb 64 q.size || sizes_over s) (ratings_check r) (cond (are_short players qualities) (refused 3) (cond (any joined_over q.entries) (refused 4) (gives tt))) p
 
-module _ (limit : ℕ) (s : TeamComposition) (r : Roster) (q : QueueState) (sheets : Sheets) (k : Checked) (h : checked_of k ≡ search_check s r q (length sheets.players) (length sheets.qualities)) where
+module _ (limit : ℕ) (s : TeamComposition) (r : Roster) (q : QueueState) (sheets : Sheets) (k : Result Unit Refusal) (h : outcome_of k ≡ search_check s r q (length sheets.players) (length sheets.qualities)) where
   -- what comes behind the check
   abbrev behind : Outcome (List MatchState)
   behind = cond (eqb (seats_of s) 0) (refused 12) (cond (cannot_rank s r q.entries) (refused 5) (gives (nearest_matches limit s r q.entries)))
 
   -- a refusal of the check
-  pub nearest_refused : {x : Refusal} → k ≡ Refused x → record { answer = refused (refusal_number x); sheets = sheets } ≡ nearest_rule limit s r q sheets
+  pub nearest_refused : {x : Refusal} → k ≡ Err x → record { answer = refused (refusal_number x); sheets = sheets } ≡ nearest_rule limit s r q sheets
   nearest_refused e = handed_refused (λ m. Floats.zero) sheets behind k h e
 
   -- no seats: 12
-  pub nearest_seatless : k ≡ Passed → seats_of s ≡ 0 → record { answer = refused 12; sheets = sheets } ≡ nearest_rule limit s r q sheets
+  pub nearest_seatless : k ≡ Ok tt → seats_of s ≡ 0 → record { answer = refused 12; sheets = sheets } ≡ nearest_rule limit s r q sheets
   nearest_seatless e z = handed_on (λ m. Floats.zero) sheets behind k h e (rw (eq-eqb (seats_of s) 0 z))
 
-  module _ (e : k ≡ Passed) (z : seats_of s ≡ 0 → ⊥) where
+  module _ (e : k ≡ Ok tt) (z : seats_of s ≡ 0 → ⊥) where
     -- fewer entries than seats: none, unranked
     pub nearest_few : length q.entries < seats_of s → record { answer = gives 0; sheets = sheets } ≡ nearest_rule limit s r q sheets
     unfolding seats

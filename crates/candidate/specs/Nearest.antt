@@ -1,6 +1,5 @@
 -- Document 01, "Off demand 3's path": the nearest generator (`GreedyNearestGenerator`).
-use Rattle.std.specs.Prelude.{ℕ, zero, suc, Bool, not, cond, ◌&&◌, List, [], ◌∷◌, map, ltb, eqb, Float, length, take, drop}
-use Rattle.std.proofs.Math.Option.{get_or}
+use Rattle.std.specs.Prelude.{ℕ, zero, suc, Bool, not, cond, ◌&&◌, List, [], ◌∷◌, map, ltb, eqb, Float, length, take, drop, unwrap_or}
 use Rattle.std.specs.Float.{binary64}
 use Rattle.std.specs.Float.Ieee.{of_bits}
 use Rattle.base.specs.Floats as Floats
@@ -20,7 +19,7 @@ thousand = of_bits binary64 0x408f_4000_0000_0000
 
 -- a player's rating by the roster: "missing rating 1000.0"
 abbrev pub rating_by : Roster → ℕ → Float
-rating_by r p = get_or (rating_of r p) thousand
+rating_by r p = unwrap_or (rating_of r p) thousand
 
 abbrev pub rating_for : Roster → QueueEntry → Float
 rating_for r e = rating_by r e.player

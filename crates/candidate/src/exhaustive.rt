@@ -10,7 +10,7 @@ ghost use Rattle.candidate.specs.Walks.{seated_next, through, listing, listed};
 use base::Refusal;
 use matchmaker::ProposedMatch;
 use queue::Queue;
-use seating::{Formed, TeamComposition};
+use seating::TeamComposition;
 
 // Where the next match goes: its players from `at` on, its quality at `done`.
 #[derive(Clone, Copy)]
@@ -42,7 +42,7 @@ pub fn seat(sizes: TeamComposition, teams: ProposedMatch, player: u64) -> Propos
     if a.held() < sizes.a {
         return ProposedMatch {
             a: seating::joined(a, player),
-            b: b,
+            b,
         };
     }
     ProposedMatch {
@@ -119,32 +119,31 @@ impl ExhaustiveGenerator {
         sizes: TeamComposition,
         players: &mut [u64],
         qualities: &mut [f64],
-    ) -> Formed
+    ) -> Result<usize, Refusal>
         ensures { leaving result players.exit.now qualities.new ≡ exhaustive_rule sizes (queue_of queue) (record { players = players.entry.now; qualities = qualities.old }) }
     {
         let n = queue.len;
         if 64 < n {
-            return Formed::Refused(Refusal::OverLimit);
+            return Err(Refusal::OverLimit);
         }
         if sizes.is_over() {
-            return Formed::Refused(Refusal::OverLimit);
+            return Err(Refusal::OverLimit);
         }
         if queue.has_joined_over() {
-            return Formed::Refused(Refusal::Clock);
+            return Err(Refusal::Clock);
         }
         if 20 < n {
-            return Formed::Refused(Refusal::TooWide);
+            return Err(Refusal::TooWide);
         }
         let seats = sizes.a + sizes.b;
         let many = ways(n, seats);
         if players.len() < many * seats {
-            return Formed::Refused(Refusal::ShortSheet);
+            return Err(Refusal::ShortSheet);
         }
         if qualities.len() < many {
-            return Formed::Refused(Refusal::ShortSheet);
+            return Err(Refusal::ShortSheet);
         }
-        let column = queue.players();
-        let queued = column.ids;
+        let queued = queue.players();
         let start = Marks { at: 0, done: 0 };
         combinations(
             sizes,
@@ -157,6 +156,6 @@ impl ExhaustiveGenerator {
             players,
             qualities,
         );
-        Formed::Count(many)
+        Ok(many)
     }
 }

@@ -3,7 +3,7 @@ use Prim.Native.Nat.{ℕ, zero, suc}
 use mathlib.Core.Path.{◌≡◌, refl, sym, ap, ◌∙◌}
 use mathlib.Core.Bool.{Bool, true, false, cond}
 use mathlib.Core.List.{List, map}
-use mathlib.Core.Option.{Option, none, get_or}
+use Rattle.std.specs.Prelude.{Option, None, unwrap_or}
 use native.Mathlib.Omega.{arith}
 use borrow.Author.Tests.{ne_eqb}
 use lib.Dec.{eqb}
@@ -46,7 +46,7 @@ use Rattle.capi.specs.declared.scores.SoftObjectives.{SoftObjectives}
 
 module _ (h : HallState) (whole_row : h.waiting ≡ awaiting h.waiting.bookings) (served : Option ℕ) where
   -- all but the seated stay, and everyone where the round is refused; the game served is the last one then
-  left_by : (o : Outcome Found) {w : WaitState} → w ≡ awaiting (without_guests (seats (matches_from o)) h.waiting.bookings) → {n : ℕ} → n ≡ get_or (served_in served o) h.served →
+  left_by : (o : Outcome Found) {w : WaitState} → w ≡ awaiting (without_guests (seats (matches_from o)) h.waiting.bookings) → {n : ℕ} → n ≡ unwrap_or (served_in served o) h.served →
       ◌≡◌ {A = HallState} (record { waiting = w; log = h.log; sizes = h.sizes; served = n }) (departing h served o)
   unfolding seats
   left_by (refused n) e f =
@@ -72,7 +72,7 @@ away hall n = record { hall = hall; count = 0; tried = 0; served = no_game; refu
 -- what its numbers tell
 refused_with : (hall : Hall) (s : Sheets) {n : ℕ} → eqb n 0 ≡ false → round_in (away hall n) s.players s.qualities ≡ turned_away (hall_of hall) s n
 refused_with hall s {n} e =
-    ap (λ (v : Outcome ℕ). record { hall = hall_of hall; handed = record { answer = v; sheets = s }; tried = 0; served = none }) (number_refuses {A = ℕ} n 0 e)
+    ap (λ (v : Outcome ℕ). record { hall = hall_of hall; handed = record { answer = v; sheets = s }; tried = 0; served = None }) (number_refuses {A = ℕ} n 0 e)
 
 module _ (hall : Hall) (c : RoundCall) where
   abbrev h : HallState
@@ -92,13 +92,13 @@ module _ (hall : Hall) (c : RoundCall) where
   -- it passes: what the round found, those who stay, and the game served
   round_told : hall_check (names_no_game c.round) (is_over h) ≡ gives tt → length hall.bookings ≡ 64 → (r : Handed) {ps : List ℕ} {qs : List Float} → HandedNumbers (quality_by (method_of c.round)) c.sheets found r ps qs →
       (n : ℕ) → game_in n ≡ served_in (served_by h c.round) found →
-      (out : Hall) → waits_with out.waiting out.bookings ≡ awaiting (without_guests (take r.seats ps) ws) → (hall_of out).log ≡ h.log → out.sizes ≡ hall.sizes → out.served ≡ get_or (game_in n) hall.served →
+      (out : Hall) → waits_with out.waiting out.bookings ≡ awaiting (without_guests (take r.seats ps) ws) → (hall_of out).log ≡ h.log → out.sizes ≡ hall.sizes → out.served ≡ unwrap_or (game_in n) hall.served →
       RoundNumbers (round_rule h c) (record { hall = out; count = r.count; tried = r.tried; served = n; refusal = r.refusal }) ps qs
   round_told passed long r {ps} {qs} f n named out stays log same last =
       let behind : round_found h c ≡ found = rw passed in
       let row = stated hall.bookings hall.waiting hall.noted hall.sizes hall.served long (hall_passes (names_no_game c.round) (is_over h) (sym passed)).1 in
       let w : waits_with out.waiting out.bookings ≡ awaiting (without_guests (seats (matches_from found)) ws) = stays ∙ ap (λ (ps : List ℕ). awaiting (without_guests ps ws)) f.seated in
-      let l : out.served ≡ get_or (served_in (served_by h c.round) found) hall.served = last ∙ ap (λ (x : Option ℕ). get_or x hall.served) named in
+      let l : out.served ≡ unwrap_or (served_in (served_by h c.round) found) hall.served = last ∙ ap (λ (x : Option ℕ). unwrap_or x hall.served) named in
       let left : hall_of out ≡ departing h (served_by h c.round) found = (λ j. record { waiting = waits_with out.waiting out.bookings; log = log j; sizes = same j; served = out.served }) ∙ left_by h row (served_by h c.round) found w l in
       record {
         turn = (λ j. record { hall = left j; handed = f.handed j; tried = f.tried j; served = named j }) ∙ sym (ap (turn_from h c) behind);
@@ -108,7 +108,7 @@ module _ (hall : Hall) (c : RoundCall) where
 -- ---- a round of a game
 
 -- a round of a game serves none
-serves_none : (o : Outcome Found) → none ≡ served_in none o
+serves_none : (o : Outcome Found) → None ≡ served_in None o
 serves_none (refused n) = refl
 serves_none (gives f) = refl
 
@@ -153,7 +153,7 @@ module _ (hall : Hall) (r : Roster) (clock : ℕ) (players : List ℕ) (qualitie
   pub dispatch_told : o ≡ false → length hall.bookings ≡ 64 → length hall.sizes ≡ 8 → (game : ℕ) → game_in game ≡ next_game (enough hall.sizes (take hall.waiting hall.bookings)) hall.served →
       {s : TeamComposition} → s ≡ sizes_for hall.sizes game → (x : Handed) {ps : List ℕ} {qs : List Float} → FoundNumbers (greedy r) clock (sheets players qualities) s game (take hall.waiting hall.bookings) x ps qs →
       (n : ℕ) → n ≡ value_or no_game (outcome_in x.refusal game) →
-      (out : Hall) → waits_with out.waiting out.bookings ≡ awaiting (without_guests (take x.seats ps) (take hall.waiting hall.bookings)) → (hall_of out).log ≡ (hall_of hall).log → out.sizes ≡ hall.sizes → out.served ≡ get_or (game_in n) hall.served →
+      (out : Hall) → waits_with out.waiting out.bookings ≡ awaiting (without_guests (take x.seats ps) (take hall.waiting hall.bookings)) → (hall_of out).log ≡ (hall_of hall).log → out.sizes ≡ hall.sizes → out.served ≡ unwrap_or (game_in n) hall.served →
       RoundNumbers (round_rule (hall_of hall) dispatching) (record { hall = out; count = x.count; tried = x.tried; served = n; refusal = x.refusal }) ps qs
   dispatch_told t long wide game next {s} e x {ps} {qs} f n g out stays log same last =
       let all : findings (greedy r) clock (sheets players qualities) (sizes_for hall.sizes game) (map entry_of (eligible game (take hall.waiting hall.bookings))) (take hall.waiting hall.bookings) ≡ found hall dispatching = greedy_of_none hall.sizes r clock (sheets players qualities) (take hall.waiting hall.bookings) game wide next in

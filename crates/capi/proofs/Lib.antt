@@ -1,5 +1,4 @@
 pub mod Softs
-pub mod Maps
 pub mod Choices
 pub mod BestChoice
 pub mod HallRounds

@@ -1,6 +1,6 @@
 -- What the exported queue and time functions answer.
 use Rattle.std.specs.Prelude.{ℕ, ◌≡◌, Float}
-use Rattle.std.proofs.Math.Option.{Option}
+use Rattle.std.specs.Prelude.{Option}
 use Rattle.base.specs.Floats.{zero}
 use Rattle.base.specs.Refusals.{Outcome}
 use Rattle.queue.specs.Queue.{queue_of, Enqueuing, Removing, Parting}

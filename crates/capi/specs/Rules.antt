@@ -4,12 +4,12 @@ use Rattle.base.specs.Lists.{any}
 use Rattle.base.specs.Refusals.{Outcome, refused}
 use Rattle.roster.specs.Roster.{Roster}
 use Rattle.matchmaker.specs.Quality.{MatchState}
-use Rattle.constraint.specs.declared.roles.Maximum.{Maximum}
-use Rattle.constraint.specs.declared.roles.Maximum.TheVariants.{Unbounded, AtMost}
+use Rattle.std.specs.Prelude.{Option, None, Some}
 use Rattle.constraint.specs.declared.roles.RoleRequirement as core
 use Rattle.constraint.specs.declared.roles.RoleConstraint.{RoleConstraint}
 use Rattle.constraint.specs.declared.Constraints as whole
-use Rattle.constraint.specs.Refusing.{Report, valid, wrong_size, too_few, too_many}
+use Rattle.constraint.specs.declared.teams.Validity as team
+use Rattle.constraint.specs.declared.teams.Validity.TheVariants.{Valid, WrongSize, TooFew, TooMany}
 use Rattle.policy.specs.Policy.{policy_score_rule}
 use Rattle.base.specs.Numbers.{refusal_of, value_or}
 use Rattle.capi.specs.Scores.{is_no_kind, softs_of}
@@ -21,9 +21,9 @@ use Rattle.capi.specs.declared.rules.Verdict.{Verdict}
 use Rattle.capi.specs.declared.rules.Validity.{Validity}
 
 -- a maximum that counts only where it is bounded
-abbrev pub maximum_of : Bool → ℕ → Maximum
-maximum_of true most = AtMost most
-maximum_of false most = Unbounded
+abbrev pub maximum_of : Bool → ℕ → Option ℕ
+maximum_of true most = Some most
+maximum_of false most = None
 
 abbrev pub requirement_of : RoleRequirement → core.RoleRequirement
 requirement_of r = record { role = r.role; least = r.least; most = maximum_of r.bounded r.most }
@@ -38,20 +38,20 @@ abbrev pub verdict_numbers : Outcome Bool → Verdict
 verdict_numbers o = record { satisfied = value_or false o; refusal = refusal_of o }
 
 -- 0 valid, 1 wrong size, 2 too few, 3 too many; the place of the requirement for the last two
-abbrev pub fault_of : Report → ℕ
-fault_of valid = 0
-fault_of wrong_size = 1
-fault_of (too_few i) = 2
-fault_of (too_many i) = 3
+abbrev pub fault_of : team.Validity → ℕ
+fault_of Valid = 0
+fault_of WrongSize = 1
+fault_of (TooFew i) = 2
+fault_of (TooMany i) = 3
 
-abbrev pub place_of : Report → ℕ
-place_of valid = 0
-place_of wrong_size = 0
-place_of (too_few i) = i
-place_of (too_many i) = i
+abbrev pub place_of : team.Validity → ℕ
+place_of Valid = 0
+place_of WrongSize = 0
+place_of (TooFew i) = i
+place_of (TooMany i) = i
 
-abbrev pub validity_numbers : Outcome Report → Validity
-validity_numbers o = record { place = place_of (value_or valid o); fault = fault_of (value_or valid o); refusal = refusal_of o }
+abbrev pub validity_numbers : Outcome team.Validity → Validity
+validity_numbers o = record { place = place_of (value_or Valid o); fault = fault_of (value_or Valid o); refusal = refusal_of o }
 
 -- a soft kind that is none, or the policy's score
 abbrev pub policy_numbers : Roster → Constraints → SoftObjectives → MatchState → Outcome Float

@@ -79,7 +79,7 @@ pub fn yilgashe_hall_empty(games: Games) -> Hall
         keys: [0; 1024],
         notes: [note; 1024],
         noted: 0,
-        sizes: sizes,
+        sizes,
         served: 255,
     }
 }
@@ -91,10 +91,7 @@ pub fn yilgashe_hall_book(hall: Hall, key: u64, booking: Booking) -> Keyed
 {
     let mut out = hall;
     let refusal = book_in(&mut out, key, booking);
-    Keyed {
-        hall: out,
-        refusal: refusal,
-    }
+    Keyed { hall: out, refusal }
 }
 
 // The same over a hall that is changed in place.
@@ -134,10 +131,7 @@ pub fn yilgashe_hall_withdraw(hall: Hall, key: u64, player: u64) -> Keyed
 {
     let mut out = hall;
     let refusal = withdraw_in(&mut out, key, player);
-    Keyed {
-        hall: out,
-        refusal: refusal,
-    }
+    Keyed { hall: out, refusal }
 }
 
 // The same over a hall that is changed in place.
@@ -227,7 +221,7 @@ pub fn greedy_round_in(
             count: 0,
             tried: 0,
             served: 255,
-            refusal: refusal,
+            refusal,
         };
     }
     let bookings = places_of(out);
@@ -304,7 +298,7 @@ pub fn beam_round_in(
             count: 0,
             tried: 0,
             served: 255,
-            refusal: refusal,
+            refusal,
         };
     }
     let bookings = places_of(out);
@@ -390,7 +384,7 @@ pub fn full_round_in(
             count: 0,
             tried: 0,
             served: 255,
-            refusal: refusal,
+            refusal,
         };
     }
     if objectives.has_no_kind() {
@@ -498,7 +492,7 @@ pub fn dispatch_in(
     RoundAnswer {
         count: handed.count,
         tried: handed.tried,
-        served: served,
+        served,
         refusal: handed.refusal,
     }
 }

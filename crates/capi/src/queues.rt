@@ -3,11 +3,11 @@ ghost use Rattle.std.specs.Prelude.{◌≡◌, []};
 ghost use Rattle.queue.specs.Queue.{queue_of, holding, enqueue_rule, remove_rule, batch_rule, wait_rule};
 ghost use Rattle.queue.specs.Time.{duration_rule, seconds_rule};
 ghost use Rattle.base.specs.Numbers.{refusal_of};
-ghost use Rattle.base.specs.Refusals.{checked_of};
+ghost use Rattle.base.specs.Refusals.{outcome_of};
 ghost use Rattle.capi.specs.Queues.{EnqueueNumbers, RemoveNumbers, BatchNumbers, wait_numbers, duration_numbers, seconds_numbers};
 
-use base::Checked;
-use queue::{Queue, QueueEntry, Taken};
+use base::Refusal;
+use queue::{Queue, QueueEntry};
 
 #[repr(C)]
 #[derive(Clone, Copy)]
@@ -57,12 +57,12 @@ pub struct Seconds {
 }
 
 // A check's answer as a number.
-pub fn refusal_number(checked: Checked) -> u8
-    ensures { result ≡ refusal_of (checked_of checked) }
+pub fn refusal_number(checked: Result<(), Refusal>) -> u8
+    ensures { result ≡ refusal_of (outcome_of checked) }
 {
     match checked {
-        Checked::Passed => 0,
-        Checked::Refused(refusal) => refusal.number(),
+        Ok(()) => 0,
+        Err(refusal) => refusal.number(),
     }
 }
 
@@ -76,11 +76,9 @@ pub fn yilgashe_queue_enqueue(queue: Queue, entry: QueueEntry) -> Enqueued
     ensures { EnqueueNumbers (enqueue_rule (queue_of queue) entry) result }
 {
     let answer = queue.enqueue(entry);
-    let after = answer.queue;
-    let checked = answer.answer;
     Enqueued {
-        queue: after,
-        refusal: refusal_number(checked),
+        queue: answer.queue,
+        refusal: refusal_number(answer.answer),
     }
 }
 
@@ -98,21 +96,21 @@ pub fn yilgashe_queue_remove(queue: Queue, player: u64) -> Removed
         role: 0,
     };
     match taken {
-        Taken::Refused(refusal) => Removed {
+        Err(refusal) => Removed {
             queue: after,
             entry: blank,
             found: false,
             refusal: refusal.number(),
         },
-        Taken::Nobody => Removed {
+        Ok(None) => Removed {
             queue: after,
             entry: blank,
             found: false,
             refusal: 0,
         },
-        Taken::Entry(entry) => Removed {
+        Ok(Some(entry)) => Removed {
             queue: after,
-            entry: entry,
+            entry,
             found: true,
             refusal: 0,
         },
@@ -127,8 +125,8 @@ pub fn yilgashe_queue_remove_batch(queue: Queue, players: &[u64]) -> Batch
     let removed = answer.removed;
     let checked = answer.answer;
     Batch {
-        kept: kept,
-        removed: removed,
+        kept,
+        removed,
         refusal: refusal_number(checked),
     }
 }
@@ -137,18 +135,18 @@ pub fn yilgashe_queue_waiting_time(queue: Queue, player: u64, clock: u64) -> Wai
     ensures { result ≡ wait_numbers (wait_rule (queue_of queue) player clock) }
 {
     match queue.waiting_time(player, clock) {
-        queue::Wait::Refused(refusal) => Wait {
+        Err(refusal) => Wait {
             nanos: 0,
             found: false,
             refusal: refusal.number(),
         },
-        queue::Wait::Nobody => Wait {
+        Ok(None) => Wait {
             nanos: 0,
             found: false,
             refusal: 0,
         },
-        queue::Wait::Of(nanos) => Wait {
-            nanos: nanos,
+        Ok(Some(nanos)) => Wait {
+            nanos,
             found: true,
             refusal: 0,
         },
@@ -159,14 +157,11 @@ pub fn yilgashe_time_duration_since(later: u64, earlier: u64) -> Duration
     ensures { result ≡ duration_numbers (duration_rule later earlier) }
 {
     match queue::time::duration_since(later, earlier) {
-        queue::time::Duration::Refused(refusal) => Duration {
+        Err(refusal) => Duration {
             nanos: 0,
             refusal: refusal.number(),
         },
-        queue::time::Duration::Of(nanos) => Duration {
-            nanos: nanos,
-            refusal: 0,
-        },
+        Ok(nanos) => Duration { nanos, refusal: 0 },
     }
 }
 
@@ -174,12 +169,12 @@ pub fn yilgashe_time_as_secs_f64(nanos: u64) -> Seconds
     ensures { result ≡ seconds_numbers (seconds_rule nanos) }
 {
     match queue::time::as_secs_f64(nanos) {
-        queue::time::Seconds::Refused(refusal) => Seconds {
+        Err(refusal) => Seconds {
             seconds: 0.0,
             refusal: refusal.number(),
         },
-        queue::time::Seconds::Of(seconds) => Seconds {
-            seconds: seconds,
+        Ok(seconds) => Seconds {
+            seconds,
             refusal: 0,
         },
     }

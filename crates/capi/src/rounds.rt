@@ -9,7 +9,8 @@ ghost use Rattle.capi.specs.FullRounds.{ChoiceNumbers, choice_numbers};
 
 use crate::rules::Constraints;
 use crate::scores::SoftObjectives;
-use choice::{Choice, Decision};
+use base::Refusal;
+use choice::Choice;
 use matchmaker::ProposedMatch;
 use queue::Queue;
 use seating::TeamComposition;
@@ -32,27 +33,27 @@ fn unfound(tried: u64, refusal: u8) -> Chosen
     let none = seating::nobody();
     Chosen {
         teams: none,
-        tried: tried,
+        tried,
         found: false,
-        refusal: refusal,
+        refusal,
     }
 }
 
-fn in_numbers(choice: Choice) -> Chosen
+fn in_numbers(choice: Result<Choice, Refusal>) -> Chosen
     ensures { ChoiceNumbers (choice_of choice) result }
 {
-    let teams = choice.teams;
-    let tried = choice.tried;
-    let decision = choice.decision;
-    match decision {
-        Decision::Refused(refusal) => unfound(0, refusal.number()),
-        Decision::Nothing => unfound(tried, 0),
-        Decision::Chosen => Chosen {
-            teams: teams,
-            tried: tried,
-            found: true,
-            refusal: 0,
-        },
+    let chosen = match choice {
+        Err(refusal) => return unfound(0, refusal.number()),
+        Ok(chosen) => chosen,
+    };
+    let Some(teams) = chosen.best else {
+        return unfound(chosen.tried, 0);
+    };
+    Chosen {
+        teams,
+        tried: chosen.tried,
+        found: true,
+        refusal: 0,
     }
 }
 

@@ -1,15 +1,17 @@
 // Constraints and policy, exported.
 ghost use Rattle.std.specs.Prelude.{◌≡◌};
+ghost use Rattle.base.specs.Refusals.{outcome_of};
 ghost use Rattle.roster.specs.Roster.{of_ratings, of_parties, of_roles, of_regions, of_rules};
 ghost use Rattle.matchmaker.specs.Quality.{team_of, match_of};
-ghost use Rattle.constraint.specs.Refusing.{verdict_of, sizes_rule, roles_rule, parties_rule, latency_rule, regions_rule, constraints_rule, validity_of, validate_rule};
+ghost use Rattle.constraint.specs.Refusing.{sizes_rule, roles_rule, parties_rule, latency_rule, regions_rule, constraints_rule, validate_rule};
 ghost use Rattle.capi.specs.Rules.{requirement_of, roles_of, constraints_of, verdict_numbers, validity_numbers, policy_numbers};
 ghost use Rattle.capi.specs.Scores.{scored_numbers};
 
 use crate::scores::{Scored, SoftObjectives, in_numbers};
+use base::Refusal;
 use constraint::Brought;
 use constraint::regions::RegionConstraint;
-use constraint::roles::{Maximum, RoleConstraint};
+use constraint::roles::RoleConstraint;
 use constraint::sizes::TeamSizeConstraint;
 use constraint::teams::TeamConstraint;
 use matchmaker::{ProposedMatch, Team};
@@ -65,30 +67,21 @@ fn requirement_of(r: RoleRequirement) -> constraint::roles::RoleRequirement
         return constraint::roles::RoleRequirement {
             role: r.role,
             least: r.least,
-            most: Maximum::AtMost(r.most),
+            most: Some(r.most),
         };
     }
     constraint::roles::RoleRequirement {
         role: r.role,
         least: r.least,
-        most: Maximum::Unbounded,
+        most: None,
     }
 }
 
 fn roles_of(r: RoleRequirements) -> RoleConstraint
     ensures { result ≡ roles_of r }
 {
-    let items = r.items;
-    let first = requirement_of(items[0]);
-    let mut out = [first; 8];
-    let mut i: usize = 0;
-    while i < 8 {
-        let item = items[i];
-        out[i] = requirement_of(item);
-        i += 1;
-    }
     RoleConstraint {
-        requirements: out,
+        requirements: r.items.map(requirement_of),
         count: r.len,
     }
 }
@@ -101,61 +94,42 @@ pub(crate) fn constraints_of(c: Constraints) -> constraint::Constraints
     let required = c.roles;
     let regions = c.regions;
     constraint::Constraints {
-        brought: brought,
-        sizes: sizes,
+        brought,
+        sizes,
         roles: roles_of(required),
-        regions: regions,
+        regions,
     }
 }
 
-fn verdict_numbers(verdict: constraint::verdicts::Verdict) -> Verdict
-    ensures { result ≡ verdict_numbers (verdict_of verdict) }
+fn verdict_numbers(verdict: Result<bool, Refusal>) -> Verdict
+    ensures { result ≡ verdict_numbers (outcome_of verdict) }
 {
     match verdict {
-        constraint::verdicts::Verdict::Refused(refusal) => Verdict {
+        Err(refusal) => Verdict {
             satisfied: false,
             refusal: refusal.number(),
         },
-        constraint::verdicts::Verdict::Satisfied => Verdict {
-            satisfied: true,
-            refusal: 0,
-        },
-        constraint::verdicts::Verdict::Violated => Verdict {
-            satisfied: false,
+        Ok(satisfied) => Verdict {
+            satisfied,
             refusal: 0,
         },
     }
 }
 
-fn validity_numbers(validity: constraint::teams::Validity) -> Validity
-    ensures { result ≡ validity_numbers (validity_of validity) }
+fn validity_numbers(validity: Result<constraint::teams::Validity, Refusal>) -> Validity
+    ensures { result ≡ validity_numbers (outcome_of validity) }
 {
-    match validity {
-        constraint::teams::Validity::Refused(refusal) => Validity {
-            place: 0,
-            fault: 0,
-            refusal: refusal.number(),
-        },
-        constraint::teams::Validity::Valid => Validity {
-            place: 0,
-            fault: 0,
-            refusal: 0,
-        },
-        constraint::teams::Validity::WrongSize => Validity {
-            place: 0,
-            fault: 1,
-            refusal: 0,
-        },
-        constraint::teams::Validity::TooFew(place) => Validity {
-            place: place,
-            fault: 2,
-            refusal: 0,
-        },
-        constraint::teams::Validity::TooMany(place) => Validity {
-            place: place,
-            fault: 3,
-            refusal: 0,
-        },
+    let (fault, place, refusal) = match validity {
+        Err(refusal) => (0, 0, refusal.number()),
+        Ok(constraint::teams::Validity::Valid) => (0, 0, 0),
+        Ok(constraint::teams::Validity::WrongSize) => (1, 0, 0),
+        Ok(constraint::teams::Validity::TooFew(place)) => (2, place, 0),
+        Ok(constraint::teams::Validity::TooMany(place)) => (3, place, 0),
+    };
+    Validity {
+        place,
+        fault,
+        refusal,
     }
 }
 
@@ -227,7 +201,7 @@ pub fn yilgashe_team_validate(
     ensures { result ≡ validity_numbers (validate_rule (of_roles ids.now roles.now) (record { size = size; roles = roles_of requirements }) (team_of team)) }
 {
     let rule = TeamConstraint {
-        size: size,
+        size,
         roles: roles_of(requirements),
     };
     validity_numbers(rule.validate(team, ids, roles))

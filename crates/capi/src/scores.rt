@@ -1,16 +1,18 @@
 // Quality, scores, soft objectives and objective vectors, exported.
 ghost use Rattle.std.specs.Prelude.{◌≡◌, min, take};
 ghost use Rattle.base.specs.Lists.{any};
+ghost use Rattle.base.specs.Refusals.{outcome_of};
 ghost use Rattle.queue.specs.Queue.{queue_of};
 ghost use Rattle.roster.specs.Roster.{of_ratings, of_deviations};
 ghost use Rattle.matchmaker.specs.Quality.{match_of, quality_rule};
-ghost use Rattle.objective.specs.Score.{score_given, score_rule};
+ghost use Rattle.objective.specs.Score.{score_rule};
 ghost use Rattle.objective.specs.Pareto.{scalarized, dominates_of, zeros, default_weights};
 ghost use Rattle.capi.specs.Scores.{scored_numbers, soft_of, is_no_kind, softs_of, soft_value_numbers, soft_score_numbers};
 
-use matchmaker::{ProposedMatch, Quality};
+use base::Refusal;
+use matchmaker::ProposedMatch;
 use objective::pareto::{MatchObjectiveVector, ObjectiveWeights};
-use objective::score::{MatchObjective, Score};
+use objective::score::MatchObjective;
 use objective::soft::SoftObjective;
 use queue::Queue;
 
@@ -32,18 +34,15 @@ pub struct SoftObjectives {
 }
 
 // A score in numbers.
-pub(crate) fn in_numbers(score: Score) -> Scored
-    ensures { result ≡ scored_numbers (score_given score) }
+pub(crate) fn in_numbers(score: Result<f64, Refusal>) -> Scored
+    ensures { result ≡ scored_numbers (outcome_of score) }
 {
     match score {
-        Score::Refused(refusal) => Scored {
+        Err(refusal) => Scored {
             value: 0.0,
             refusal: refusal.number(),
         },
-        Score::Of(value) => Scored {
-            value: value,
-            refusal: 0,
-        },
+        Ok(value) => Scored { value, refusal: 0 },
     }
 }
 
@@ -72,16 +71,7 @@ impl SoftObjectives {
     pub(crate) fn has_no_kind(self) -> bool
         ensures { result ≡ any is_no_kind (take self.len self.kinds) }
     {
-        let kinds = self.kinds;
-        let n = self.held();
-        let mut i: usize = 0;
-        while i < n {
-            if 2 < kinds[i] {
-                return true;
-            }
-            i += 1;
-        }
-        false
+        self.kinds[..self.held()].iter().any(|kind| 2 < *kind)
     }
 
     // All eight, as objectives.
@@ -91,10 +81,8 @@ impl SoftObjectives {
         let kinds = self.kinds;
         let weights = self.weights;
         let mut out = [SoftObjective::Wait(0.0); 8];
-        let mut i: usize = 0;
-        while i < 8 {
+        for i in 0..8 {
             out[i] = soft_of(kinds[i], weights[i]);
-            i += 1;
         }
         out
     }
@@ -103,16 +91,7 @@ impl SoftObjectives {
 pub fn yilgashe_match_quality(proposed: ProposedMatch, ids: &[u64], ratings: &[f64]) -> Scored
     ensures { result ≡ scored_numbers (quality_rule (of_ratings ids.now ratings.now) (match_of proposed)) }
 {
-    match proposed.match_quality(ids, ratings) {
-        Quality::Refused(refusal) => Scored {
-            value: 0.0,
-            refusal: refusal.number(),
-        },
-        Quality::Of(value) => Scored {
-            value: value,
-            refusal: 0,
-        },
-    }
+    in_numbers(proposed.match_quality(ids, ratings))
 }
 
 pub fn yilgashe_match_score(

@@ -3,13 +3,14 @@
 ghost use Rattle.std.specs.Prelude.{◌≡◌};
 ghost use Rattle.queue.specs.Queue.{queue_of};
 ghost use Rattle.roster.specs.Roster.{of_ratings, of_deviations};
-ghost use Rattle.seating.specs.Seating.{formed_of};
+ghost use Rattle.base.specs.Refusals.{outcome_of};
 ghost use Rattle.beam.specs.Beam.{beam_rule};
 ghost use Rattle.greedy.specs.Greedy.{greedy_rule};
 ghost use Rattle.candidate.specs.Exhaustive.{exhaustive_rule};
 ghost use Rattle.candidate.specs.Nearest.{nearest_rule};
 ghost use Rattle.capi.specs.Searches.{formed_numbers, sheets, SearchNumbers};
 
+use base::Refusal;
 use beam::BeamSearch;
 use candidate::exhaustive::ExhaustiveGenerator;
 use candidate::nearest::GreedyNearestGenerator;
@@ -26,18 +27,15 @@ pub struct Formed {
     pub refusal: u8,
 }
 
-pub(crate) fn in_numbers(formed: seating::Formed) -> Formed
-    ensures { result ≡ formed_numbers (formed_of formed) }
+pub(crate) fn in_numbers(formed: Result<usize, Refusal>) -> Formed
+    ensures { result ≡ formed_numbers (outcome_of formed) }
 {
     match formed {
-        seating::Formed::Refused(refusal) => Formed {
+        Err(refusal) => Formed {
             count: 0,
             refusal: refusal.number(),
         },
-        seating::Formed::Count(count) => Formed {
-            count: count,
-            refusal: 0,
-        },
+        Ok(count) => Formed { count, refusal: 0 },
     }
 }
 

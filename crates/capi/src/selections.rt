@@ -5,7 +5,7 @@ ghost use Rattle.selection.specs.Selection.{selected_of};
 ghost use Rattle.capi.specs.Selections.{SelectNumbers, greedy_numbers, threshold_numbers, lexicographic_numbers, weighted_numbers};
 
 use crate::scores::SoftObjectives;
-use base::Checked;
+use base::Refusal;
 use matchmaker::ProposedMatch;
 use objective::pareto::ObjectiveWeights;
 
@@ -33,7 +33,7 @@ fn refused(refusal: u8) -> Selected
     Selected {
         places: [0; 64],
         len: 0,
-        refusal: refusal,
+        refusal,
     }
 }
 
@@ -43,9 +43,9 @@ fn selected_numbers(selected: selection::Selected) -> Selected
     let places = selected.places;
     let answer = selected.answer;
     match answer {
-        Checked::Refused(refusal) => refused(refusal.number()),
-        Checked::Passed => Selected {
-            places: places,
+        Err(refusal) => refused(refusal.number()),
+        Ok(()) => Selected {
+            places,
             len: base::at_most(selected.count, 64),
             refusal: 0,
         },

@@ -26,10 +26,7 @@ pub extern "C" fn yilgashe_hall_book(hall: Hall, key: u64, booking: Booking) -> 
 {
     let mut out = hall;
     let refusal = halls::book_in(&mut out, key, booking);
-    Keyed {
-        hall: out,
-        refusal: refusal,
-    }
+    Keyed { hall: out, refusal }
 }
 
 #[unsafe(no_mangle)]
@@ -38,10 +35,7 @@ pub extern "C" fn yilgashe_hall_withdraw(hall: Hall, key: u64, player: u64) -> K
 {
     let mut out = hall;
     let refusal = halls::withdraw_in(&mut out, key, player);
-    Keyed {
-        hall: out,
-        refusal: refusal,
-    }
+    Keyed { hall: out, refusal }
 }
 
 #[unsafe(no_mangle)]

@@ -8,12 +8,11 @@ use borrow.Author.Tests.{ltb-true, le-leb, lt-leb}
 use lib.Arith.{digits_div, digits_mod}
 use lib.Dec.{ltb, leb}
 use lib.ListN.{length}
+use Rattle.std.specs.Prelude.{Option, None, Some}
 use Rattle.base.specs.Lists.{seek, every}
 use Rattle.base.proofs.Cases.{cases}
 use Rattle.base.proofs.Every.{every_alike}
 use Rattle.roster.specs.Roster.{Roster}
-use Rattle.constraint.specs.declared.roles.Maximum.{Maximum}
-use Rattle.constraint.specs.declared.roles.Maximum.TheVariants.{Unbounded, AtMost}
 use Rattle.constraint.specs.declared.roles.RoleRequirement.{RoleRequirement}
 use Rattle.constraint.specs.Constraints.{role_count, within_maximum, requirement_holds}
 use Rattle.constraint.proofs.RoleLaws.{role_count_fits}
@@ -47,9 +46,9 @@ capped_least : (n k : ℕ) → k < 255 → leb (capped n) k ≡ leb n k
 capped_least n k h =
     cases (ltb 255 n) (λ t. let g = ltb-true 255 n t in rw t (lt-leb 255 k h ∙ sym (lt-leb n k (omega arith)))) (λ f. rw f)
 
-capped_most : (x : Maximum) (k : ℕ) → k < 255 → leb k (most_of x) ≡ within_maximum k x
-capped_most Unbounded k h = le-leb k 255 (omega arith)
-capped_most (AtMost n) k h =
+capped_most : (x : Option ℕ) (k : ℕ) → k < 255 → leb k (most_of x) ≡ within_maximum k x
+capped_most None k h = le-leb k 255 (omega arith)
+capped_most (Some n) k h =
     cases (ltb 255 n) (λ t. let g = ltb-true 255 n t in rw t (le-leb k 255 (omega arith) ∙ sym (le-leb k n (omega arith)))) (λ f. rw f)
 
 -- the counts of fewer than 255 players are within the limits where every requirement holds

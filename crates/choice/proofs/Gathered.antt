@@ -3,7 +3,7 @@ use Prim.Native.Nat.{ℕ}
 use mathlib.Core.Path.{◌≡◌, refl, sym, ap}
 use mathlib.Core.Bool.{Bool, true, false, not, cond, ◌&&◌, ◌||◌}
 use mathlib.Core.List.{List, [], ◌∷◌}
-use mathlib.Core.Option.{Option, none, some, get_or}
+use Rattle.std.specs.Prelude.{Option, None, Some, unwrap_or}
 use borrow.Author.Tests.{eqb-true, eq-eqb, not-true}
 use lib.Dec.{eqb}
 use Rattle.base.specs.Lists.{any, every, member, Distinct, Within}
@@ -19,7 +19,7 @@ use Rattle.constraint.specs.Constraints.{party_seated, party_together}
 
 module _ (k : ℕ) where
   -- where every row of a party is among some, each of its players is
-  row_among : (ids parties ps : List ℕ) (q : ℕ) → party_seated ids parties ps k ≡ true → observe ids parties q ≡ some k → member q ps ≡ true
+  row_among : (ids parties ps : List ℕ) (q : ℕ) → party_seated ids parties ps k ≡ true → observe ids parties q ≡ Some k → member q ps ≡ true
   unfolding party_seated observe
   row_among [] parties ps q h e = never cc
   row_among (id ∷ ids) [] ps q h e = never cc
@@ -27,7 +27,7 @@ module _ (k : ℕ) where
       cases (eqb id q)
       (λ t.
       let y : id ≡ q = eqb-true id q t in
-      let o : some n ≡ some k = rw t at e in
+      let o : Some n ≡ Some k = rw t at e in
       let z : n ≡ k = cc in
       cases (member id ps) (λ u. rw (← y) u) (λ v. never (let w : false ≡ true = rw (eq-eqb n k z, v) at h in cc)))
       (λ f.
@@ -36,23 +36,23 @@ module _ (k : ℕ) where
       (λ v. row_among ids parties ps q (rw v at h) (rw f at e)))
 
   -- a row below the first tells of its player what it told without the first, whose player is not below
-  row_later : (id n : ℕ) (ids parties : List ℕ) (q : ℕ) → member id ids ≡ false → observe ids parties q ≡ some k → observe (id ∷ ids) (n ∷ parties) q ≡ some k
+  row_later : (id n : ℕ) (ids parties : List ℕ) (q : ℕ) → member id ids ≡ false → observe ids parties q ≡ Some k → observe (id ∷ ids) (n ∷ parties) q ≡ Some k
   unfolding observe
   row_later id n ids parties q d e =
       cases (eqb id q)
       (λ t.
       let y : id ≡ q = eqb-true id q t in
-      let z : observe ids parties q ≡ none = observe_absent q ids parties (rw y at d) in
+      let z : observe ids parties q ≡ None = observe_absent q ids parties (rw y at d) in
       never cc)
       (λ f. rw f e)
 
   -- where every row of a party is among some, and its players who are among these are among others, every row is among the others
-  rows_among : (ids parties ps qs : List ℕ) → Distinct ids → ((q : ℕ) → observe ids parties q ≡ some k → member q ps ≡ true → member q qs ≡ true) → party_seated ids parties ps k ≡ true → party_seated ids parties qs k ≡ true
+  rows_among : (ids parties ps qs : List ℕ) → Distinct ids → ((q : ℕ) → observe ids parties q ≡ Some k → member q ps ≡ true → member q qs ≡ true) → party_seated ids parties ps k ≡ true → party_seated ids parties qs k ≡ true
   unfolding party_seated observe
   rows_among [] parties ps qs d so h = refl
   rows_among (id ∷ ids) [] ps qs d so h = refl
   rows_among (id ∷ ids) (n ∷ parties) ps qs d so h =
-      let later : (q : ℕ) → observe ids parties q ≡ some k → member q ps ≡ true → member q qs ≡ true = λ q e j. so q (row_later id n ids parties q d.0 e) j in
+      let later : (q : ℕ) → observe ids parties q ≡ Some k → member q ps ≡ true → member q qs ≡ true = λ q e j. so q (row_later id n ids parties q d.0 e) j in
       cases (eqb n k)
       (λ t.
       cases (member id ps)
@@ -64,9 +64,9 @@ module _ (k : ℕ) where
       (λ f. rw f (rows_among ids parties ps qs d.1 later (rw f at h)))
 
 -- a party that is not 0 is told by a row
-told_by_row : (o : Option ℕ) (k : ℕ) → get_or o 0 ≡ k → eqb k 0 ≡ false → o ≡ some k
-told_by_row none k e f = never (let z : eqb k 0 ≡ true = eq-eqb k 0 (sym e) in cc)
-told_by_row (some x) k e f = ap some e
+told_by_row : (o : Option ℕ) (k : ℕ) → unwrap_or o 0 ≡ k → eqb k 0 ≡ false → o ≡ Some k
+told_by_row None k e f = never (let z : eqb k 0 ≡ true = eq-eqb k 0 (sym e) in cc)
+told_by_row (Some x) k e f = ap Some e
 
 -- must q be seated where p is?
 abbrev partner : Roster → ℕ → ℕ → Bool
@@ -93,7 +93,7 @@ module _ (r : Roster) (queue ps : List ℕ) (d : Distinct r.ids) (waiting : With
       (rows_among (party_of r p) r.ids r.parties queue ps d
       (λ q o i.
       holds_so (any (λ x. partner r x q) ps) (member q ps) (every_of (λ q. not (any (λ x. partner r x q) ps) || member q ps) q queue b.1 i)
-      (any_of (λ x. partner r x q) p ps j (rw (n, eq-eqb (party_of r q) (party_of r p) (ap (λ (y : Option ℕ). get_or y 0) o)))))
+      (any_of (λ x. partner r x q) p ps j (rw (n, eq-eqb (party_of r q) (party_of r p) (ap (λ (y : Option ℕ). unwrap_or y 0) o)))))
       (rw n at e))))
       b.0
 

@@ -1,10 +1,9 @@
 -- Choices that are idle are only counted.
-use Prim.Native.Nat.{ℕ, zero, suc, ◌+◌, ◌-◌, ◌≤◌, ◌<◌}
+use Prim.Native.Nat.{ℕ, zero, suc, ◌+◌, ◌≤◌, ◌<◌}
 use mathlib.Core.Path.{◌≡◌, refl, sym, ap, ◌∙◌}
 use mathlib.Core.Bool.{Bool, true, false, not, cond}
 use mathlib.Core.List.{List, [], ◌∷◌}
-use mathlib.Core.Option.{none, some}
-use native.Mathlib.Numerals.{sub-one}
+use Rattle.std.specs.Prelude.{None, Some}
 use native.Mathlib.Omega.{arith}
 use borrow.Author.Tests.{not-true, not-false, lt-ltb, le-ltb, ltb-true, ltb-false}
 use lib.Dec.{ltb}
@@ -33,40 +32,23 @@ use Rattle.choice.proofs.Lasting.{last_next}
 
 -- ---- are_idle
 
-module _ (f : ℕ → Bool) (at left : ℕ) {v : Bool} (inv : idle_from f at left ≡ v) where
+module _ (f : ℕ → Bool) (at n : ℕ) {left : ℕ} {v x : Bool} (inv : idle_from f at left ≡ v) (more : left ≡ suc n) (w : x ≡ f at) where
   -- the next is not idle
-  pub idle_not : {x : Bool} → 0 < left → x ≡ f at → not x ≡ true → false ≡ v
+  pub idle_not : not x ≡ true → false ≡ v
   unfolding idle_from
-  idle_not {x} h w y = go left h inv
-    where
-      go : (n : ℕ) → 0 < n → idle_from f at n ≡ v → false ≡ v
-      go zero k i = absurd (omega arith)
-      go (suc n) k i = rw (sym w ∙ not-true x y) at i
+  idle_not y = rw (more, sym w ∙ not-true x y) at inv
 
   -- the next is idle
-  pub idle_on : {x : Bool} → 0 < left → x ≡ f at → not x ≡ false → idle_from f (at + 1) (left - 1) ≡ v
+  pub idle_on : not x ≡ false → idle_from f (at + 1) n ≡ v
   unfolding idle_from
-  idle_on {x} h w y = go left h inv
-    where
-      go : (n : ℕ) → 0 < n → idle_from f at n ≡ v → idle_from f (at + 1) (n - 1) ≡ v
-      go zero k i = absurd (omega arith)
-      go (suc n) k i = rw sub-one (rw (sym w ∙ not-false x y) at i)
-
-  -- none is left
-  pub idle_end : left ≤ 0 → true ≡ v
-  unfolding idle_from
-  idle_end h = go left h inv
-    where
-      go : (n : ℕ) → n ≤ 0 → idle_from f at n ≡ v → true ≡ v
-      go zero k i = i
-      go (suc n) k i = absurd (omega arith)
+  idle_on y = rw (more, sym w ∙ not-false x y) at inv
 
 -- ---- what idle choices leave
 
 module _ (t : Terms) (es : List QueueEntry) (s : TeamComposition) (q : List ℕ) (m : MatchState) (f : ℕ → Bool) (found many bad : Bool) (p : Scored) where
   -- the best so far when so many were tried
   abbrev kept : ℕ → SoFar
-  kept tried = record { tried = tried; best = cond found (some p) none; many = many; nan = bad }
+  kept tried = record { tried = tried; best = cond found (Some p) None; many = many; nan = bad }
 
   -- choices that are each idle are only counted
   pub all_idle : (last : ℕ) → last ≤ length q → ((i tried : ℕ) → i < last → f i ≡ true → skipped (kept tried) ≡ weighed t es (kept tried) (seated_next s m (get_or q i 0))) → (n at tried : ℕ) → at + n ≤ last → idle_from f at n ≡ true
@@ -76,9 +58,8 @@ module _ (t : Terms) (es : List QueueEntry) (s : TeamComposition) (q : List ℕ)
       ap kept (omega arith) ∙ through_short s (weighed t es) m 1 (take 0 (drop at q)) (kept tried) (omega (arith, length-take 0 (drop at q)))
   all_idle last l each (suc n) at tried h e =
       let k = both_hold (f at) (idle_from f (at + 1) n) e in
-      let z : suc n - 1 ≡ n = omega arith in
-      let g = last_next s (weighed t es) q m at (suc n) (kept tried) refl (omega arith) (omega arith) refl (each at tried (omega arith) k.0) in
-      ap kept (omega arith) ∙ all_idle last l each n (at + 1) (tried + 1) (omega arith) k.1 ∙ (rw z at g)
+      let g = last_next s (weighed t es) q m at (suc n) (kept tried) refl n (omega arith) (omega arith) refl (each at tried (omega arith) k.0) in
+      ap kept (omega arith) ∙ all_idle last l each n (at + 1) (tried + 1) (omega arith) k.1 ∙ g
 
 -- ---- the next player but one
 
@@ -101,8 +82,8 @@ module _ (r : Roster) (c : Constraints) (on : Bool) (es : List QueueEntry) (x : 
   pub two_idle : (m : MatchState) (sums : Sums) (first found many bad : Bool) (p : Scored) (at k tried : ℕ) {idle : Bool}
       → Summing r s m sums → length (seated m) + 1 ≡ seats_of s → first ≡ ltb (length m.a.players) s.a
       → at + k ≤ length es → at + k ≤ length x.queued → idle ≡ idle_from (idle_at (take count objectives) s x.rows x.rated sums first found many p.score) at k → idle ≡ true
-      → ◌≡◌ {A = SoFar} (record { tried = tried + k; best = cond found (some p) none; many = many; nan = bad })
-      (through s (weighed (terms r c on objectives count) es) m 1 (take k (drop at x.queued)) (record { tried = tried; best = cond found (some p) none; many = many; nan = bad }))
+      → ◌≡◌ {A = SoFar} (record { tried = tried + k; best = cond found (Some p) None; many = many; nan = bad })
+      (through s (weighed (terms r c on objectives count) es) m 1 (take k (drop at x.queued)) (record { tried = tried; best = cond found (Some p) None; many = many; nan = bad }))
   two_idle m sums first found many bad p at k tried fills h e g l i j =
       let t = terms r c on objectives count in
       let q = x.queued in

@@ -6,6 +6,7 @@ pub mod Checking
 pub mod Summing
 pub mod Lasting
 pub mod Limits
+pub mod Mapped
 pub mod Marking
 pub mod Packing
 pub mod MarkLaws

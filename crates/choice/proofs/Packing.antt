@@ -8,10 +8,9 @@ use borrow.Author.Tests.{ltb-false}
 use lib.Dec.{ltb}
 use lib.ListN.{length, take, drop, get_or, set, replicate, length-drop}
 use lib.Seq.{length-take-le}
+use Rattle.std.specs.Prelude.{Option, None, Some}
 use Rattle.base.proofs.Arrays.{peel, peeled, all_held}
 use Rattle.base.proofs.Cases.{cases}
-use Rattle.constraint.specs.declared.roles.Maximum.{Maximum}
-use Rattle.constraint.specs.declared.roles.Maximum.TheVariants.{Unbounded, AtMost}
 use Rattle.constraint.specs.declared.roles.RoleRequirement.{RoleRequirement}
 use Rattle.choice.specs.Reading.{packed, one_each, capped, most_of, bounds_of}
 use Rattle.choice.specs.declared.tally.Bounds.{Bounds}
@@ -73,9 +72,9 @@ pub capped_low : (n : ℕ) → capped n ≤ 255
 capped_low n = cases (ltb 255 n) (λ t. rw t (omega arith)) (λ f. rw f (ltb-false 255 n f))
 
 -- a maximum is at most 255
-pub most_low : (m : Maximum) → most_of m ≤ 255
-most_low Unbounded = omega arith
-most_low (AtMost n) = capped_low n
+pub most_low : (m : Option ℕ) → most_of m ≤ 255
+most_low None = omega arith
+most_low (Some n) = capped_low n
 
 -- bounds made of their parts
 pub bounds_made : (qs : List RoleRequirement) {asked least most : ℕ} → asked ≡ length qs → least ≡ packed (map (λ (q : RoleRequirement). capped q.least) qs) → most ≡ packed (map (λ (q : RoleRequirement). most_of q.most) qs) → ◌≡◌ {A = Bounds} (record { asked = asked; least = least; most = most }) (bounds_of qs)

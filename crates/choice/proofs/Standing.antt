@@ -3,7 +3,7 @@ use Prim.Native.Nat.{ℕ, ◌≤◌, ◌<◌}
 use mathlib.Core.Path.{◌≡◌, refl, sym, ap, ◌∙◌}
 use mathlib.Core.Bool.{Bool, false}
 use mathlib.Core.List.{List, [], ◌∷◌, map}
-use mathlib.Core.Option
+use Rattle.std.specs.Prelude.{is_some, unwrap_or}
 use native.Mathlib.Omega.{arith}
 use lib.Dec.{eqb}
 use lib.Ieee.{nan}
@@ -11,7 +11,6 @@ use lib.Bits.{bit_or}
 use lib.ListN.{length, take, get_or}
 use lib.Seq.{get_or-take, length-take-le}
 use Rattle.base.specs.Floats as Floats
-use Rattle.base.specs.Lists.{is_some}
 use Rattle.base.specs.Refusals.{gives}
 use Rattle.base.proofs.Arrays.{column_at}
 use Rattle.queue.specs.declared.QueueEntry.{QueueEntry}
@@ -53,7 +52,7 @@ module _ (r : Roster) (c : Constraints) (on : Bool) (n : ℕ) (es : List QueueEn
       f i h ∙ ap (λ (k : ℕ). bit_or k (marks (invites on es p) es)) g ∙ marks_or (λ e. wants r c p e.player) (invites on es p) es
 
   pub stand : {b : Bounds} (partners : List ℕ) → rules_check r ≡ gives tt → b ≡ bounds_of (required c)
-      → take n x.rows ≡ map (λ p. is_some (rating_of r p)) queue → take n x.rated ≡ map (λ p. Option.get_or (rating_of r p) Floats.zero) queue → take n x.admits ≡ map (admitted r c queue) queue
+      → take n x.rows ≡ map (λ p. is_some (rating_of r p)) queue → take n x.rated ≡ map (λ p. unwrap_or (rating_of r p) Floats.zero) queue → take n x.admits ≡ map (admitted r c queue) queue
       → take n x.counts ≡ map (λ p. packed (map (counts_for r p) (required c))) queue → take n x.same ≡ map (λ p. marks (λ q. eqb q p) queue) queue → take n partners ≡ map (λ p. marks (wants r c p) queue) queue
       → ((i : ℕ) → i < n → get_or x.expected i 0 ≡ bit_or (get_or partners i 0) (marks (invites on es (get_or x.queued i 0)) es))
       → take n x.foes ≡ map (λ p. marks (bars r c p) queue) queue → StandFor r c on es x b
@@ -66,7 +65,7 @@ module _ (r : Roster) (c : Constraints) (on : Bool) (n : ℕ) (es : List QueueEn
             let h : i < n = omega (arith, many) in
             record {
               row = told (λ p. is_some (rating_of r p)) false x.rows rows i h;
-              rating = told (λ p. Option.get_or (rating_of r p) Floats.zero) nan x.rated rated i h;
+              rating = told (λ p. unwrap_or (rating_of r p) Floats.zero) nan x.rated rated i h;
               admits = told_all (admitted r c) false x.admits admits i h;
               counts = told (λ p. packed (map (counts_for r p) (required c))) 0 x.counts counts i h;
               same = told_all (λ ps p. marks (λ q. eqb q p) ps) 0 x.same same i h;

@@ -3,8 +3,7 @@ use Prim.Native.Nat.{ℕ, ◌+◌, ◌≤◌, ◌<◌}
 use mathlib.Core.Path.{◌≡◌, refl, sym, ap, ◌∙◌}
 use mathlib.Core.Bool.{Bool, true, false, cond, ◌&&◌, ◌||◌}
 use mathlib.Core.List.{List, [], ◌∷◌, ◌++◌, append-nil, append_assoc}
-use mathlib.Core.Option
-use mathlib.Core.Option.{Option, none, some}
+use Rattle.std.specs.Prelude.{Option, None, Some, is_some, unwrap_or}
 use native.Mathlib.Omega.{arith}
 use borrow.Author.Tests.{lt-ltb, ltb-true, ltb-false}
 use lib.Dec.{ltb}
@@ -27,7 +26,6 @@ use Rattle.candidate.proofs.Walking.{seat_more}
 use Rattle.constraint.specs.declared.Constraints.{Constraints}
 use Rattle.choice.specs.Full.{Terms, passes, score_in}
 use Rattle.choice.specs.Reading.{Columns, Says}
-use Rattle.base.specs.Lists.{is_some}
 use Rattle.choice.specs.Steps.{skipped, weighed}
 use Rattle.choice.specs.Sums.{plus_row, no_sums, sums_with, score_by, Summing}
 use Rattle.choice.specs.declared.Sums.{Sums}
@@ -35,9 +33,9 @@ use Rattle.choice.specs.declared.Sums.{Sums}
 -- ---- what is read once
 
 -- a sum grows by what was observed
-grown_by : (o : Option Float) (sum : Float) → plus_row (is_some o) (Option.get_or o Floats.zero) sum ≡ absorb (add binary64) sum o
-grown_by none sum = refl
-grown_by (some x) sum = refl
+grown_by : (o : Option Float) (sum : Float) → plus_row (is_some o) (unwrap_or o Floats.zero) sum ≡ absorb (add binary64) sum o
+grown_by None sum = refl
+grown_by (Some x) sum = refl
 
 -- a sum grows by what the columns say of a place
 pub grown_read : {r : Roster} {c : Constraints} {on : Bool} {es : List QueueEntry} {x : Columns} {i p : ℕ} → Says r c on es x i p → (sum : Float)
@@ -147,7 +145,7 @@ or_not false e = e
 
 -- two or more passed, and the best of them scores higher than m: m is only counted, whether it passes or not
 pub idle_skipped : (t : Terms) (es : List QueueEntry) (m : MatchState) (tried : ℕ) (found many bad : Bool) (p : Scored) {score : Float} {idle : Bool} → score ≡ score_in t m → idle ≡ (found && (many && lt score p.score)) → idle ≡ true
-    → skipped (record { tried = tried; best = cond found (some p) none; many = many; nan = bad }) ≡ weighed t es (record { tried = tried; best = cond found (some p) none; many = many; nan = bad }) m
+    → skipped (record { tried = tried; best = cond found (Some p) None; many = many; nan = bad }) ≡ weighed t es (record { tried = tried; best = cond found (Some p) None; many = many; nan = bad }) m
 unfolding weighed
 idle_skipped t es m tried false many bad p e i h = never cc
 idle_skipped t es m tried true false bad p e i h = never cc

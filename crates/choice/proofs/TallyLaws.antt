@@ -10,7 +10,7 @@ use lib.Dec.{eqb, ltb}
 use lib.ListN.{length, get_or, length-append}
 use Rattle.base.specs.Lists.{seek, any, every, keep, member, Within}
 use Rattle.base.specs.Refusals.{gives}
-use Rattle.base.specs.declared.Checked.TheVariants.{Passed}
+use Rattle.std.specs.Prelude.{Ok}
 use Rattle.base.proofs.Cases.{cases}
 use Rattle.base.proofs.Every.{every_alike, every_more, any_more, every_passes, none_passes, every_both}
 use Rattle.base.proofs.Members.{eqb_sym, Distinct-of, within_append}
@@ -260,7 +260,7 @@ module _ (r : Roster) (c : Constraints) (on : Bool) (s : TeamComposition) (es : 
   pub tally_fits : rules_check r ≡ gives tt → s.a ≤ 8 → s.b ≤ 8 → {bounds : Bounds} → bounds ≡ bounds_of (required c) → fits bounds t ≡ (constraints_hold r c m && (not on || friends_seated es m))
   unfolding fits
   tally_fits checked x y e =
-      let d = Distinct-of r.ids (passed_distinct r.ids (length r.ratings ∷ length r.parties ∷ length r.roles ∷ length r.regions ∷ []) r.regions Passed refl (sym checked)) in
+      let d = Distinct-of r.ids (passed_distinct r.ids (length r.ratings ∷ length r.parties ∷ length r.roles ∷ length r.regions ∷ []) r.regions (Ok tt) refl (sym checked)) in
       let queue = players_of es in
       let w = every (λ q. not (any (λ p. wants r c p q) (seated m)) || member q (seated m)) queue in
       let g : eqb (bit_and t.wanted t.present) t.wanted ≡ (w && (not on || friends_seated es m)) =

@@ -3,7 +3,7 @@ use Prim.Native.Nat.{ℕ, ◌+◌, ◌≤◌}
 use mathlib.Core.Path.{◌≡◌, refl, sym, ap, ◌∙◌}
 use mathlib.Core.Bool.{Bool, true, false, cond, ◌||◌, or-false}
 use mathlib.Core.List.{List, [], ◌∷◌, map, foldl}
-use mathlib.Core.Option.{none, some}
+use Rattle.std.specs.Prelude.{None, Some}
 use native.Mathlib.Nat.{zero-add}
 use native.Mathlib.Omega.{arith}
 use borrow.Author.Tests.{lt-ltb}
@@ -47,7 +47,7 @@ module _ (t : Terms) (queue : List QueueEntry) where
   scored m = record { teams = m; score = score_in t m }
 
   -- the one that is kept is the better one with its score
-  better_scored : (b m : MatchState) → or_better (some (scored b)) (scored m) ≡ scored (better (score_in t) b m)
+  better_scored : (b m : MatchState) → or_better (Some (scored b)) (scored m) ≡ scored (better (score_in t) b m)
   better_scored b m = cases (lt (score_in t m) (score_in t b)) (λ e. rw e) (λ e. rw e)
 
   -- one more choice that passes is weighed against the best
@@ -65,7 +65,7 @@ module _ (t : Terms) (queue : List QueueEntry) where
   known n b many nan ms =
       record {
         tried = n;
-        best = some (scored (last_best (score_in t) b ms));
+        best = Some (scored (last_best (score_in t) b ms));
         many = many || occupied ms;
         nan = nan || any is_nan (map (score_in t) ms);
       }
@@ -77,25 +77,25 @@ module _ (t : Terms) (queue : List QueueEntry) where
       rw (or_assoc many true (occupied ms), or_assoc nan (is_nan (score_in t m)) (any is_nan (map (score_in t) ms)))
 
   -- none passed behind b
-  known_all : (n : ℕ) (b : MatchState) (many nan : Bool) → known n b many nan [] ≡ record { tried = n; best = some (scored b); many = many; nan = nan }
+  known_all : (n : ℕ) (b : MatchState) (many nan : Bool) → known n b many nan [] ≡ record { tried = n; best = Some (scored b); many = many; nan = nan }
   unfolding seek
   known_all n b many nan = rw (or-false many, or-false nan)
 
   -- b is the best so far: what these matches add
   weighed_more : (ms : List MatchState) (n : ℕ) (b : MatchState) (many nan : Bool)
-      → foldl (weighed t queue) (record { tried = n; best = some (scored b); many = many; nan = nan }) ms ≡ known (n + length ms) b many nan (keep (passes t queue) ms)
+      → foldl (weighed t queue) (record { tried = n; best = Some (scored b); many = many; nan = nan }) ms ≡ known (n + length ms) b many nan (keep (passes t queue) ms)
   unfolding keep
   weighed_more [] n b many nan =
       let e : n + 0 ≡ n = omega arith in
       rw e (sym (known_all n b many nan))
   weighed_more (m ∷ ms) n b many nan =
       let e : n + 1 + length ms ≡ n + length (m ∷ ms) = omega arith in
-      let p : SoFar = record { tried = n; best = some (scored b); many = many; nan = nan } in
+      let p : SoFar = record { tried = n; best = Some (scored b); many = many; nan = nan } in
       let k = keep (passes t queue) ms in
       cases (passes t queue m)
       (λ y.
       ap (λ (q : SoFar). foldl (weighed t queue) q ms)
-      (weighed_passed p m y ∙ ap (λ (x : Scored). record { tried = n + 1; best = some x; many = many || true; nan = nan || is_nan (score_in t m) }) (better_scored b m))
+      (weighed_passed p m y ∙ ap (λ (x : Scored). record { tried = n + 1; best = Some x; many = many || true; nan = nan || is_nan (score_in t m) }) (better_scored b m))
       ∙ weighed_more ms (n + 1) (better (score_in t) b m) (many || true) (nan || is_nan (score_in t m))
       ∙ known_more (n + 1 + length ms) b m many nan k
       ∙ rw (e, y))
@@ -103,7 +103,7 @@ module _ (t : Terms) (queue : List QueueEntry) where
 
   -- what is known when n were tried and these passed
   abbrev seen : ℕ → List MatchState → SoFar
-  seen n [] = record { tried = n; best = none; many = false; nan = false }
+  seen n [] = record { tried = n; best = None; many = false; nan = false }
   seen n (m ∷ ms) = known n m false (is_nan (score_in t m)) ms
 
   -- none passed so far: what these matches come to

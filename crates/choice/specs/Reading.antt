@@ -1,17 +1,14 @@
 -- What is read once of each place before the choices are walked. A set of places is a number whose binary digits are the places, and so
 -- are small counts. No public contract cites this.
 use Rattle.std.specs.Prelude.{ℕ, zero, suc, ◌+◌, ◌*◌, ◌/◌, ◌%◌, ◌<◌, ◌≡◌, Bool, true, false, not, cond, ◌&&◌, ◌||◌, List, [], ◌∷◌, map, eqb, ltb, leb, Float, length, take, get_or}
-use Rattle.std.proofs.Math.Option
+use Rattle.std.specs.Prelude.{Option, None, Some, is_some, unwrap_or}
 use Rattle.std.specs.Int.Bits.{bit_or}
 use Rattle.std.specs.Float.{nan}
 use Rattle.base.specs.Floats as Floats
-use Rattle.base.specs.Lists.{is_some}
 use Rattle.base.specs.Refusals.{gives}
 use Rattle.roster.specs.Roster.{Roster, rules_check, rating_of, party_of, region_of}
 use Rattle.queue.specs.declared.QueueEntry.{QueueEntry}
 use Rattle.constraint.specs.declared.Constraints.{Constraints}
-use Rattle.constraint.specs.declared.roles.Maximum.{Maximum}
-use Rattle.constraint.specs.declared.roles.Maximum.TheVariants.{Unbounded, AtMost}
 use Rattle.constraint.specs.declared.roles.RoleRequirement.{RoleRequirement}
 use Rattle.constraint.specs.Constraints.{above_zero, party_together, may_meet, pairs_of, has_role, requirements_of}
 use Rattle.choice.specs.Friends.{waits_in}
@@ -85,9 +82,9 @@ counts_for r p q = cond (has_role r q.role p) 1 0
 abbrev pub capped : ℕ → ℕ
 capped n = cond (ltb 255 n) 255 n
 
-abbrev pub most_of : Maximum → ℕ
-most_of Unbounded = 255
-most_of (AtMost n) = capped n
+abbrev pub most_of : Option ℕ → ℕ
+most_of None = 255
+most_of (Some n) = capped n
 
 abbrev pub bounds_of : List RoleRequirement → Bounds
 bounds_of qs =
@@ -133,7 +130,7 @@ columns queued rows rated admits counts same expected foes =
 -- what they say of player p at place i
 pub record Says (r : Roster) (c : Constraints) (friends : Bool) (es : List QueueEntry) (x : Columns) (i p : ℕ) : Type 0 where
   pub row : get_or x.rows i false ≡ is_some (rating_of r p)
-  pub rating : get_or x.rated i nan ≡ Option.get_or (rating_of r p) Floats.zero
+  pub rating : get_or x.rated i nan ≡ unwrap_or (rating_of r p) Floats.zero
   pub admits : get_or x.admits i false ≡ admitted r c (players_of es) p
   pub counts : get_or x.counts i 0 ≡ packed (map (counts_for r p) (required c))
   pub same : get_or x.same i 0 ≡ marks (λ q. eqb q p) (players_of es)

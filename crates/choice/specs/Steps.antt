@@ -1,8 +1,7 @@
 -- The best so far while the choices are walked, as the code keeps it. No public contract cites this.
 use Rattle.std.specs.Prelude.{ℕ, ◌+◌, Bool, false, cond, ◌&&◌, ◌||◌, List, Float}
-use Rattle.std.proofs.Math.Option.{Option, none, some}
+use Rattle.std.specs.Prelude.{Option, None, Some, is_some}
 use Rattle.std.specs.Float.Ieee.{lt, is_nan}
-use Rattle.base.specs.Lists.{is_some}
 use Rattle.base.specs.Refusals.{Outcome, refused, gives}
 use Rattle.queue.specs.declared.QueueEntry.{QueueEntry}
 use Rattle.matchmaker.specs.Quality.{MatchState, match_of}
@@ -21,25 +20,25 @@ abbrev pub so_far_of : Best → SoFar
 so_far_of b =
     record {
       tried = b.tried;
-      best = cond b.found (some (record { teams = match_of b.teams; score = b.score })) none;
+      best = cond b.found (Some (record { teams = match_of b.teams; score = b.score })) None;
       many = b.many;
       nan = b.nan;
     }
 
 abbrev pub unweighed : SoFar
-unweighed = record { tried = 0; best = none; many = false; nan = false }
+unweighed = record { tried = 0; best = None; many = false; nan = false }
 
 -- x takes the place of the best unless it scores lower
 abbrev pub or_better : Option Scored → Scored → Scored
-or_better none x = x
-or_better (some b) x = cond (lt x.score b.score) b x
+or_better None x = x
+or_better (Some b) x = cond (lt x.score b.score) b x
 
 -- one more choice, which passes; one more, which does not
 abbrev pub passed : SoFar → MatchState → Float → SoFar
 passed b m score =
     record {
       tried = b.tried + 1;
-      best = some (or_better b.best (record { teams = m; score = score }));
+      best = Some (or_better b.best (record { teams = m; score = score }));
       many = b.many || is_some b.best;
       nan = b.nan || is_nan score;
     }
@@ -57,8 +56,8 @@ weighed t queue b m = cond (passes t queue m) (passed b m (score_in t m)) (skipp
 
 -- what all choices come to
 abbrev pub teams_in : Option Scored → Option MatchState
-teams_in none = none
-teams_in (some p) = some p.teams
+teams_in None = None
+teams_in (Some p) = Some p.teams
 
 unfoldable pub concluding : SoFar → Outcome Selection
 concluding b = cond (b.many && b.nan) (refused 5) (gives (record { best = teams_in b.best; tried = b.tried }))

@@ -10,15 +10,7 @@ use queue::Queue;
 fn parties_in(queue: Queue) -> [u64; 64]
     ensures { result ≡ map (λ e. e.party) queue.entries }
 {
-    let entries = queue.entries;
-    let mut out: [u64; 64] = [0; 64];
-    let mut i: usize = 0;
-    while i < 64 {
-        let e = entries[i];
-        out[i] = e.party;
-        i += 1;
-    }
-    out
+    queue.entries.map(|e| e.party)
 }
 
 // A set of places with those of another, if these count.
@@ -32,29 +24,25 @@ fn with_if(places: u64, counts: bool, others: u64) -> u64
 }
 
 // The sets of all places of the guest together.
-fn pool(queued: &[u64; 64], sets: &[u64; 64], n: usize, guest: u64) -> u64
-    requires { (n ≤ 64) × ((length queued.now ≡ 64) × (length sets.now ≡ 64)) }
-    ensures { result ≡ pooled guest (take n queued.now) (take n sets.now) }
+fn pool(queued: &[u64], sets: &[u64], guest: u64) -> u64
+    requires { length queued.now ≡ length sets.now }
+    ensures { result ≡ pooled guest queued.now sets.now }
 {
     let mut out: u64 = 0;
-    let mut i = n;
-    while 0 < i {
-        i -= 1;
+    for i in (0..queued.len()).rev() {
         out = with_if(out, queued[i] == guest, sets[i]);
     }
     out
 }
 
 // For each place its set with those of all places of its guest.
-fn pool_all(first: [u64; 64], queued: &[u64; 64], sets: &[u64; 64], n: usize) -> [u64; 64]
-    requires { (n ≤ 64) × ((length queued.now ≡ 64) × (length sets.now ≡ 64)) }
-    ensures { (i : ℕ) → i < n → get_or result i 0 ≡ bit_or (get_or first i 0) (pooled (get_or queued.now i 0) (take n queued.now) (take n sets.now)) }
+fn pool_all(first: [u64; 64], queued: &[u64], sets: &[u64]) -> [u64; 64]
+    requires { (length queued.now ≤ 64) × (length queued.now ≡ length sets.now) }
+    ensures { (i : ℕ) → i < length queued.now → get_or result i 0 ≡ bit_or (get_or first i 0) (pooled (get_or queued.now i 0) queued.now sets.now) }
 {
     let mut out = first;
-    let mut i: usize = 0;
-    while i < n {
-        out[i] = out[i] | pool(queued, sets, n, queued[i]);
-        i += 1;
+    for (i, guest) in queued.iter().enumerate() {
+        out[i] |= pool(queued, sets, *guest);
     }
     out
 }
@@ -74,6 +62,6 @@ pub(crate) fn with_waiting(
     }
     let n = queue.len;
     let parties = parties_in(queue);
-    let friends = marks::partners_of(&parties, n);
-    pool_all(sets, queued, &friends, n)
+    let friends = marks::partners_of(&parties[..n]);
+    pool_all(sets, &queued[..n], &friends[..n])
 }

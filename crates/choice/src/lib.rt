@@ -3,21 +3,21 @@
 
 ghost use Rattle.std.specs.Prelude.{◌≡◌, cond, ◌&&◌, ltb, ℕ, ◌+◌, ◌*◌, ◌≤◌, ◌<◌, ◌^◌, [], map, length, take, get_or};
 ghost use Rattle.std.specs.Float.Ieee.{lt};
-ghost use Rattle.base.specs.Refusals.{refused, gives, refusal_number, checked_of};
+ghost use Rattle.base.specs.Refusals.{gives, outcome_of};
 ghost use Rattle.queue.specs.Queue.{queue_of};
 ghost use Rattle.roster.specs.Roster.{of_rules};
 ghost use Rattle.matchmaker.specs.Quality.{match_of, seated};
 ghost use Rattle.seating.specs.Seating.{seats_of, lineup};
 ghost use Rattle.candidate.specs.Choices.{ways};
 ghost use Rattle.candidate.specs.Walks.{through};
-ghost use Rattle.choice.specs.Full.{terms, terms_check, choice_check, choice_rule, ChoiceParts};
+ghost use Rattle.choice.specs.Full.{terms, terms_check, choice_check, choice_rule, choice_of};
 ghost use Rattle.choice.specs.Reading.{one_each, columns};
 ghost use Rattle.choice.specs.Steps.{so_far_of, passed, skipped, skipped_by, weighed, unweighed, concluding};
 ghost use Rattle.choice.specs.Sums.{plus_row, sums_with, score_by, no_sums, idle_at, idle_from};
 ghost use Rattle.choice.specs.Tallies.{Walked};
 
 use crate::tally::{Bounds, Tally};
-use base::{Checked, Refusal};
+use base::Refusal;
 use constraint::Constraints;
 use matchmaker::ProposedMatch;
 use objective::soft::SoftObjective;
@@ -40,14 +40,6 @@ pub struct Best {
     pub tried: u64,
 }
 
-// What comes of it: a refusal, nothing that passes, or a match.
-#[derive(Clone, Copy)]
-pub enum Decision {
-    Refused(Refusal),
-    Nothing,
-    Chosen,
-}
-
 // What the players of a choice are rated together: those of A, those of B, and all, A then B. A player without a row adds nothing.
 #[derive(Clone, Copy)]
 pub struct Sums {
@@ -56,12 +48,10 @@ pub struct Sums {
     pub all: f64,
 }
 
-// The match where one is chosen, else nobody, and how many choices were tried, 0 where it is refused. What stands in a team's array
-// behind its players counts for nothing.
+// The match, where one is chosen, and how many choices were tried. What stands in a team's array behind its players counts for nothing.
 #[derive(Clone, Copy)]
 pub struct Choice {
-    pub decision: Decision,
-    pub teams: ProposedMatch,
+    pub best: Option<ProposedMatch>,
     pub tried: u64,
 }
 
@@ -80,18 +70,18 @@ fn outdo(best: Best, teams: ProposedMatch, score: f64) -> Best
             teams: kept,
             score: best.score,
             found: true,
-            many: many,
-            nan: nan,
-            tried: tried,
+            many,
+            nan,
+            tried,
         };
     }
     Best {
-        teams: teams,
-        score: score,
+        teams,
+        score,
         found: true,
-        many: many,
-        nan: nan,
-        tried: tried,
+        many,
+        nan,
+        tried,
     }
 }
 
@@ -147,13 +137,13 @@ fn sums_with(sums: Sums, first: bool, row: bool, rating: f64) -> Sums
         return Sums {
             a: plus(sums.a, row, rating),
             b: sums.b,
-            all: all,
+            all,
         };
     }
     Sums {
         a: sums.a,
         b: plus(sums.b, row, rating),
-        all: all,
+        all,
     }
 }
 
@@ -196,16 +186,12 @@ fn are_idle(
     requires { (sizes.a ≤ 8) × ((sizes.b ≤ 8) × (from + rest ≤ 64)) }
     ensures { result ≡ idle_from (idle_at (take count objectives) sizes rows.now rated.now sums first found many top) from rest }
 {
-    let mut at = from;
-    let mut left = rest;
-    while 0 < left {
+    for at in from..from + rest {
         let next = sums_with(sums, first, rows[at], rated[at]);
         let score = score_of(objectives, count, next, sizes.a, sizes.b);
         if !is_idle(found, many, top, score) {
             return false;
         }
-        at += 1;
-        left -= 1;
     }
     true
 }
@@ -259,22 +245,16 @@ fn seat_last(
 {
     let first = is_a_short(sizes, teams);
     let mut out = best;
-    let mut at = from;
-    let mut left = rest;
-    while 0 < left {
+    for at in from..from + rest {
         let next = sums_with(sums, first, rows[at], rated[at]);
         let score = score_of(objectives, count, next, sizes.a, sizes.b);
         if is_idle(out.found, out.many, out.score, score) {
             out = skip(out);
-            at += 1;
-            left -= 1;
         } else {
             let full = tally::tally_with(tally, first, admits, counts, same, expected, foes, at);
             let passes = tally::passes(bounds, full);
             let with = candidate::exhaustive::seat(sizes, teams, queued[at]);
             out = weigh(out, passes, with, score);
-            at += 1;
-            left -= 1;
         }
     }
     out
@@ -311,16 +291,15 @@ fn seat_two(
     let first = is_a_short(sizes, teams);
     let second = is_a_short_by_two(sizes, teams);
     let mut out = best;
-    let mut at = from;
-    let mut behind = rest;
-    while 2 <= behind {
+    for behind in (1..rest).rev() {
+        let at = from + rest - 1 - behind;
         let next = sums_with(sums, first, rows[at], rated[at]);
         if are_idle(
             sizes,
             rows,
             rated,
             at + 1,
-            behind - 1,
+            behind,
             next,
             second,
             objectives,
@@ -329,9 +308,7 @@ fn seat_two(
             out.many,
             out.score,
         ) {
-            out = skip_all(out, behind - 1);
-            at += 1;
-            behind -= 1;
+            out = skip_all(out, behind);
         } else {
             let with = candidate::exhaustive::seat(sizes, teams, queued[at]);
             let grown = tally::tally_with(tally, first, admits, counts, same, expected, foes, at);
@@ -346,7 +323,7 @@ fn seat_two(
                 expected,
                 foes,
                 at + 1,
-                behind - 1,
+                behind,
                 with,
                 next,
                 grown,
@@ -355,8 +332,6 @@ fn seat_two(
                 count,
                 out,
             );
-            at += 1;
-            behind -= 1;
         }
     }
     out
@@ -455,25 +430,6 @@ fn walk(
     )
 }
 
-// Nobody is chosen, for this reason.
-fn unchosen(decision: Decision, tried: u64) -> Choice
-    ensures { (result.decision ≡ decision) × ((match_of result.teams ≡ lineup [] []) × (result.tried ≡ tried)) }
-{
-    let none = seating::nobody();
-    Choice {
-        decision: decision,
-        teams: none,
-        tried: tried,
-    }
-}
-
-// No choice, for this refusal.
-fn refuse(refusal: Refusal) -> Choice
-    ensures { ChoiceParts (refused (refusal_number refusal)) result }
-{
-    unchosen(Decision::Refused(refusal), 0)
-}
-
 // Nothing tried yet.
 fn untried() -> Best
     ensures { so_far_of result ≡ unweighed }
@@ -500,22 +456,16 @@ fn unsummed() -> Sums
 }
 
 // What all choices come to.
-fn concluded(best: Best) -> Choice
-    ensures { ChoiceParts (concluding (so_far_of best)) result }
+fn concluded(best: Best) -> Result<Choice, Refusal>
+    ensures { choice_of result ≡ concluding (so_far_of best) }
 {
-    let teams = best.teams;
-    let tried = best.tried;
     if best.many & best.nan {
-        return refuse(Refusal::Unranked);
+        return Err(Refusal::Unranked);
     }
-    if best.found {
-        return Choice {
-            decision: Decision::Chosen,
-            teams: teams,
-            tried: tried,
-        };
-    }
-    unchosen(Decision::Nothing, tried)
+    Ok(Choice {
+        best: best.found.then_some(best.teams),
+        tried: best.tried,
+    })
 }
 
 // Refusals 1 and 2 of what a full round brings.
@@ -528,21 +478,19 @@ pub fn check_terms(
     parties: &[u64],
     roles: &[u32],
     regions: &[u8],
-) -> Checked
-    ensures { checked_of result ≡ terms_check (of_rules ids.now ratings.now parties.now roles.now regions.now) constraints count sizes }
+) -> Result<(), Refusal>
+    ensures { outcome_of result ≡ terms_check (of_rules ids.now ratings.now parties.now roles.now regions.now) constraints count sizes }
 {
     if sizes.is_over() {
-        return Checked::Refused(Refusal::OverLimit);
+        return Err(Refusal::OverLimit);
     }
     if constraints.is_over() {
-        return Checked::Refused(Refusal::OverLimit);
+        return Err(Refusal::OverLimit);
     }
     if 8 < count {
-        return Checked::Refused(Refusal::OverLimit);
+        return Err(Refusal::OverLimit);
     }
-    if let Checked::Refused(refusal) = roster::check_rules(ids, ratings, parties, roles, regions) {
-        return Checked::Refused(refusal);
-    }
+    roster::check_rules(ids, ratings, parties, roles, regions)?;
     constraints.check_pairs()
 }
 
@@ -557,13 +505,13 @@ fn check(
     parties: &[u64],
     roles: &[u32],
     regions: &[u8],
-) -> Checked
-    ensures { checked_of result ≡ choice_check (of_rules ids.now ratings.now parties.now roles.now regions.now) constraints count sizes (queue_of queue) }
+) -> Result<(), Refusal>
+    ensures { outcome_of result ≡ choice_check (of_rules ids.now ratings.now parties.now roles.now regions.now) constraints count sizes (queue_of queue) }
 {
     if 64 < queue.len {
-        return Checked::Refused(Refusal::OverLimit);
+        return Err(Refusal::OverLimit);
     }
-    if let Checked::Refused(refusal) = check_terms(
+    check_terms(
         sizes,
         constraints,
         count,
@@ -572,16 +520,14 @@ fn check(
         parties,
         roles,
         regions,
-    ) {
-        return Checked::Refused(refusal);
-    }
+    )?;
     if queue.has_joined_over() {
-        return Checked::Refused(Refusal::Clock);
+        return Err(Refusal::Clock);
     }
     if 20 < queue.len {
-        return Checked::Refused(Refusal::TooWide);
+        return Err(Refusal::TooWide);
     }
-    Checked::Passed
+    Ok(())
 }
 
 // The best of all choices of A + B players of the queue, which passed its check.
@@ -602,22 +548,22 @@ fn best_of(
     ensures { so_far_of result ≡ through sizes (weighed (terms (of_rules ids.now ratings.now parties.now roles.now regions.now) constraints friends objectives count) (take queue.len queue.entries)) (lineup [] []) (seats_of sizes) (take queue.len (map (λ e. e.player) queue.entries)) unweighed }
 {
     let n = queue.len;
-    let column = queue.players();
-    let queued = column.ids;
+    let queued = queue.players();
+    let waiting = &queued[..n];
     let brought = constraints.brought;
     let mut rows = [false; 64];
-    roster::places::write_known(ids, ratings, &queued[..n], &mut rows);
+    roster::places::write_known(ids, ratings, waiting, &mut rows);
     let mut rated = [0.0; 64];
-    roster::places::write_values(ids, ratings, &queued[..n], &mut rated);
-    let admits = marks::admits_of(brought, &queued[..n], ids, ratings, parties);
+    roster::places::write_values(ids, ratings, waiting, &mut rated);
+    let admits = marks::admits_of(brought, waiting, ids, ratings, parties);
     let required = marks::required(brought.roles, constraints.roles);
-    let counts = marks::counts_of(required, &queued, n, ids, roles);
-    let same = marks::same_of(&queued, n);
-    let party = marks::parties_of(brought.parties, &queued, n, ids, parties);
-    let partners = marks::partners_of(&party, n);
+    let counts = marks::counts_of(required, waiting, ids, roles);
+    let same = marks::same_of(waiting);
+    let party = marks::parties_of(brought.parties, waiting, ids, parties);
+    let partners = marks::partners_of(&party[..n]);
     let expected = friends::with_waiting(friends, queue, &queued, partners);
-    let region = marks::regions_of(brought.regions, &queued, n, ids, regions);
-    let foes = marks::foes_of(constraints.regions, &region, n);
+    let region = marks::regions_of(brought.regions, waiting, ids, regions);
+    let foes = marks::foes_of(constraints.regions, &region[..n]);
     walk(
         sizes,
         &queued,
@@ -654,10 +600,10 @@ pub fn best_choice(
     parties: &[u64],
     roles: &[u32],
     regions: &[u8],
-) -> Choice
-    ensures { ChoiceParts (choice_rule (terms (of_rules ids.now ratings.now parties.now roles.now regions.now) constraints friends objectives count) sizes (queue_of queue)) result }
+) -> Result<Choice, Refusal>
+    ensures { choice_of result ≡ choice_rule (terms (of_rules ids.now ratings.now parties.now roles.now regions.now) constraints friends objectives count) sizes (queue_of queue) }
 {
-    if let Checked::Refused(refusal) = check(
+    check(
         queue,
         sizes,
         constraints,
@@ -667,9 +613,7 @@ pub fn best_choice(
         parties,
         roles,
         regions,
-    ) {
-        return refuse(refusal);
-    }
+    )?;
     concluded(best_of(
         queue,
         sizes,

@@ -7,7 +7,7 @@ ghost use Rattle.choice.specs.Reading.{marks, packed, one_each, counts_for, capp
 use crate::tally::Bounds;
 use constraint::Brought;
 use constraint::regions::RegionConstraint;
-use constraint::roles::{Maximum, RoleConstraint};
+use constraint::roles::RoleConstraint;
 
 // ---- sets of places
 
@@ -23,67 +23,59 @@ fn marked_next(places: u64, is: bool) -> u64
 }
 
 // The places of this key.
-fn alike(keys: &[u64; 64], n: usize, key: u64) -> u64
-    requires { (n ≤ 64) × (length keys.now ≡ 64) }
-    ensures { result ≡ marks (λ k. eqb k key) (take n keys.now) }
+fn alike(keys: &[u64], key: u64) -> u64
+    requires { length keys.now ≤ 64 }
+    ensures { result ≡ marks (λ k. eqb k key) keys.now }
 {
     let mut out: u64 = 0;
-    let mut i = n;
-    while 0 < i {
-        i -= 1;
+    for i in (0..keys.len()).rev() {
         out = marked_next(out, keys[i] == key);
     }
     out
 }
 
 // For each place those of the same player.
-pub(crate) fn same_of(queued: &[u64; 64], n: usize) -> [u64; 64]
-    requires { (n ≤ 64) × (length queued.now ≡ 64) }
-    ensures { take n result ≡ map (λ p. marks (λ q. eqb q p) (take n queued.now)) (take n queued.now) }
+pub(crate) fn same_of(queued: &[u64]) -> [u64; 64]
+    requires { length queued.now ≤ 64 }
+    ensures { take (length queued.now) result ≡ map (λ p. marks (λ q. eqb q p) queued.now) queued.now }
 {
     let mut out: [u64; 64] = [0; 64];
-    let mut i: usize = 0;
-    while i < n {
-        out[i] = alike(queued, n, queued[i]);
-        i += 1;
+    for (i, player) in queued.iter().enumerate() {
+        out[i] = alike(queued, *player);
     }
     out
 }
 
 // The places of this party; party 0 is none.
-fn partners(parties: &[u64; 64], n: usize, party: u64) -> u64
-    requires { (n ≤ 64) × (length parties.now ≡ 64) }
-    ensures { result ≡ marks (λ q. not (eqb party 0) && eqb q party) (take n parties.now) }
+fn partners(parties: &[u64], party: u64) -> u64
+    requires { length parties.now ≤ 64 }
+    ensures { result ≡ marks (λ q. not (eqb party 0) && eqb q party) parties.now }
 {
     if party == 0 {
         return 0;
     }
-    alike(parties, n, party)
+    alike(parties, party)
 }
 
 // For each place those of the same party.
-pub(crate) fn partners_of(parties: &[u64; 64], n: usize) -> [u64; 64]
-    requires { (n ≤ 64) × (length parties.now ≡ 64) }
-    ensures { take n result ≡ map (λ p. marks (λ q. not (eqb p 0) && eqb q p) (take n parties.now)) (take n parties.now) }
+pub(crate) fn partners_of(parties: &[u64]) -> [u64; 64]
+    requires { length parties.now ≤ 64 }
+    ensures { take (length parties.now) result ≡ map (λ p. marks (λ q. not (eqb p 0) && eqb q p) parties.now) parties.now }
 {
     let mut out: [u64; 64] = [0; 64];
-    let mut i: usize = 0;
-    while i < n {
-        out[i] = partners(parties, n, parties[i]);
-        i += 1;
+    for (i, party) in parties.iter().enumerate() {
+        out[i] = partners(parties, *party);
     }
     out
 }
 
 // The places of the regions that may not meet this one.
-fn strangers(allowed: RegionConstraint, codes: &[u8; 64], n: usize, code: u8) -> u64
-    requires { (n ≤ 64) × (length codes.now ≡ 64) }
-    ensures { result ≡ marks (λ y. not (may_meet (pairs_of allowed) code y)) (take n codes.now) }
+fn strangers(allowed: RegionConstraint, codes: &[u8], code: u8) -> u64
+    requires { length codes.now ≤ 64 }
+    ensures { result ≡ marks (λ y. not (may_meet (pairs_of allowed) code y)) codes.now }
 {
     let mut out: u64 = 0;
-    let mut i = n;
-    while 0 < i {
-        i -= 1;
+    for i in (0..codes.len()).rev() {
         let meet = allowed.may_meet(code, codes[i]);
         out = marked_next(out, !meet);
     }
@@ -91,15 +83,13 @@ fn strangers(allowed: RegionConstraint, codes: &[u8; 64], n: usize, code: u8) ->
 }
 
 // For each place those of the regions that may not meet its own.
-pub(crate) fn foes_of(allowed: RegionConstraint, codes: &[u8; 64], n: usize) -> [u64; 64]
-    requires { (n ≤ 64) × (length codes.now ≡ 64) }
-    ensures { take n result ≡ map (λ x. marks (λ y. not (may_meet (pairs_of allowed) x y)) (take n codes.now)) (take n codes.now) }
+pub(crate) fn foes_of(allowed: RegionConstraint, codes: &[u8]) -> [u64; 64]
+    requires { length codes.now ≤ 64 }
+    ensures { take (length codes.now) result ≡ map (λ x. marks (λ y. not (may_meet (pairs_of allowed) x y)) codes.now) codes.now }
 {
     let mut out: [u64; 64] = [0; 64];
-    let mut i: usize = 0;
-    while i < n {
-        out[i] = strangers(allowed, codes, n, codes[i]);
-        i += 1;
+    for (i, code) in codes.iter().enumerate() {
+        out[i] = strangers(allowed, codes, *code);
     }
     out
 }
@@ -127,41 +117,25 @@ fn region_in(brought: bool, ids: &[u64], regions: &[u8], player: u64) -> u8
 }
 
 // The party of each place.
-pub(crate) fn parties_of(
-    brought: bool,
-    queued: &[u64; 64],
-    n: usize,
-    ids: &[u64],
-    parties: &[u64],
-) -> [u64; 64]
-    requires { (n ≤ 64) × (length queued.now ≡ 64) }
-    ensures { take n result ≡ map (λ p. cond brought (party_of (of_parties ids.now parties.now) p) 0) (take n queued.now) }
+pub(crate) fn parties_of(brought: bool, queued: &[u64], ids: &[u64], parties: &[u64]) -> [u64; 64]
+    requires { length queued.now ≤ 64 }
+    ensures { take (length queued.now) result ≡ map (λ p. cond brought (party_of (of_parties ids.now parties.now) p) 0) queued.now }
 {
     let mut out: [u64; 64] = [0; 64];
-    let mut i: usize = 0;
-    while i < n {
-        out[i] = party_in(brought, ids, parties, queued[i]);
-        i += 1;
+    for (i, player) in queued.iter().enumerate() {
+        out[i] = party_in(brought, ids, parties, *player);
     }
     out
 }
 
 // The region of each place.
-pub(crate) fn regions_of(
-    brought: bool,
-    queued: &[u64; 64],
-    n: usize,
-    ids: &[u64],
-    regions: &[u8],
-) -> [u8; 64]
-    requires { (n ≤ 64) × (length queued.now ≡ 64) }
-    ensures { take n result ≡ map (λ p. cond brought (region_of (of_regions ids.now regions.now) p) 4) (take n queued.now) }
+pub(crate) fn regions_of(brought: bool, queued: &[u64], ids: &[u64], regions: &[u8]) -> [u8; 64]
+    requires { length queued.now ≤ 64 }
+    ensures { take (length queued.now) result ≡ map (λ p. cond brought (region_of (of_regions ids.now regions.now) p) 4) queued.now }
 {
     let mut out: [u8; 64] = [4; 64];
-    let mut i: usize = 0;
-    while i < n {
-        out[i] = region_in(brought, ids, regions, queued[i]);
-        i += 1;
+    for (i, player) in queued.iter().enumerate() {
+        out[i] = region_in(brought, ids, regions, *player);
     }
     out
 }
@@ -198,10 +172,8 @@ pub(crate) fn admits_of(
     ensures { take (length queue.now) result ≡ map (λ p. (not brought.latency || above_zero (rating_of (of_ratings ids.now ratings.now) p)) && party_together (of_parties ids.now parties.now) queue.now (cond brought.parties (party_of (of_parties ids.now parties.now) p) 0)) queue.now }
 {
     let mut out = [false; 64];
-    let mut i: usize = 0;
-    while i < queue.len() {
-        out[i] = is_admitted(brought, queue, ids, ratings, parties, queue[i]);
-        i += 1;
+    for (i, player) in queue.iter().enumerate() {
+        out[i] = is_admitted(brought, queue, ids, ratings, parties, *player);
     }
     out
 }
@@ -239,9 +211,7 @@ fn counted(required: RoleConstraint, role: u32) -> u64
 {
     let requirements = required.requirements;
     let mut out: u64 = 0;
-    let mut i = required.held();
-    while 0 < i {
-        i -= 1;
+    for i in (0..required.held()).rev() {
         let requirement = requirements[i];
         out = out * 256 + one_if(requirement.role, role);
     }
@@ -251,19 +221,16 @@ fn counted(required: RoleConstraint, role: u32) -> u64
 // The counts that the player of each place adds.
 pub(crate) fn counts_of(
     required: RoleConstraint,
-    queued: &[u64; 64],
-    n: usize,
+    queued: &[u64],
     ids: &[u64],
     roles: &[u32],
 ) -> [u64; 64]
-    requires { (n ≤ 64) × (length queued.now ≡ 64) }
-    ensures { (take n result ≡ map (λ p. packed (map (counts_for (of_roles ids.now roles.now) p) (requirements_of required))) (take n queued.now)) × ((i : ℕ) → get_or result i 0 ≤ one_each) }
+    requires { length queued.now ≤ 64 }
+    ensures { (take (length queued.now) result ≡ map (λ p. packed (map (counts_for (of_roles ids.now roles.now) p) (requirements_of required))) queued.now) × ((i : ℕ) → get_or result i 0 ≤ one_each) }
 {
     let mut out: [u64; 64] = [0; 64];
-    let mut i: usize = 0;
-    while i < n {
-        out[i] = counted(required, roster::role_of(ids, roles, queued[i]));
-        i += 1;
+    for (i, player) in queued.iter().enumerate() {
+        out[i] = counted(required, roster::role_of(ids, roles, *player));
     }
     out
 }
@@ -278,12 +245,12 @@ fn cap(limit: usize) -> u64
     limit as u64
 }
 
-fn cap_of(most: Maximum) -> u64
+fn cap_of(most: Option<usize>) -> u64
     ensures { result ≡ most_of most }
 {
     match most {
-        Maximum::Unbounded => 255,
-        Maximum::AtMost(limit) => cap(limit),
+        None => 255,
+        Some(limit) => cap(limit),
     }
 }
 
@@ -295,17 +262,11 @@ pub(crate) fn bounds_of(required: RoleConstraint) -> Bounds
     let asked = required.held();
     let mut least: u64 = 0;
     let mut most: u64 = 0;
-    let mut i = asked;
-    while 0 < i {
-        i -= 1;
+    for i in (0..asked).rev() {
         let requirement = requirements[i];
         let limit = requirement.most;
         least = least * 256 + cap(requirement.least);
         most = most * 256 + cap_of(limit);
     }
-    Bounds {
-        asked: asked,
-        least: least,
-        most: most,
-    }
+    Bounds { asked, least, most }
 }

@@ -61,18 +61,18 @@ pub(crate) fn tally_with(
     let wanted = tally.wanted | expected[at];
     if first {
         return Tally {
-            fine: fine,
+            fine,
             counts: total,
-            present: present,
-            wanted: wanted,
+            present,
+            wanted,
             barred: tally.barred | foes[at],
         };
     }
     Tally {
-        fine: fine,
+        fine,
         counts: total,
-        present: present,
-        wanted: wanted,
+        present,
+        wanted,
         barred: tally.barred,
     }
 }
@@ -81,11 +81,10 @@ pub(crate) fn tally_with(
 fn are_within(asked: usize, counts: u64, least: u64, most: u64) -> bool
     ensures { result ≡ in_limits asked counts least most }
 {
-    let mut left = asked;
     let mut c = counts;
     let mut l = least;
     let mut m = most;
-    while 0 < left {
+    for _ in 0..asked {
         let count = c % 256;
         if count < l % 256 {
             return false;
@@ -93,10 +92,9 @@ fn are_within(asked: usize, counts: u64, least: u64, most: u64) -> bool
         if m % 256 < count {
             return false;
         }
-        c = c / 256;
-        l = l / 256;
-        m = m / 256;
-        left -= 1;
+        c /= 256;
+        l /= 256;
+        m /= 256;
     }
     true
 }

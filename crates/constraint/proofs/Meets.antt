@@ -1,14 +1,13 @@
--- The laws of parties, ratings and regions: the turns of their loops, the answers of each kind, and what bringing nothing,
+-- The laws of parties, ratings and regions: the rows of a party, the answers of each kind, and what bringing nothing,
 -- an empty list of pairs and a pair turned round come to.
-use Prim.Native.Nat.{ℕ, ◌+◌, ◌≤◌, ◌<◌}
-use mathlib.Core.Path.{◌≡◌, refl, sym, ap, ◌∙◌}
-use mathlib.Core.Bool.{true, false, not, ◌&&◌, or_comm, and-false}
+use Prim.Native.Nat.{ℕ}
+use mathlib.Core.Path.{◌≡◌, refl, ap}
+use mathlib.Core.Bool.{Bool, true, false, not, ◌&&◌, or_comm, and-false}
 use mathlib.Core.List.{List, [], ◌∷◌}
-use native.Mathlib.Numerals.{add-one}
-use borrow.Author.Tests.{not-true, not-false, ne_eqb}
+use borrow.Author.Tests.{ne_eqb}
 use lib.Dec.{eqb}
-use lib.ListN.{length, drop, get_or, drop_of_length-le}
-use lib.Seq.{drop-cons}
+use Rattle.std.specs.List.{zip}
+use Rattle.base.proofs.Cases.{cases}
 use Rattle.base.specs.Lists.{seek, every, member}
 use Rattle.base.proofs.Members.{every_fails}
 use Rattle.roster.specs.Roster.{Roster, party_of, region_of}
@@ -19,32 +18,17 @@ use Rattle.constraint.specs.declared.Constraints.{Constraints}
 
 -- ---- parties
 
--- a party without rows is seated
-no_rows : (players : List ℕ) (party : ℕ) (ids : List ℕ) → party_seated ids [] players party ≡ true
-unfolding party_seated
-no_rows players party [] = refl
-no_rows players party (id ∷ ids) = refl
+-- does a row, a player and a party, let this party be seated?
+abbrev pub row_seated : List ℕ → ℕ → ℕ × ℕ → Bool
+row_seated players party row = not (eqb row.1 party && not (member row.0 players))
 
-module _ (players : List ℕ) (party : ℕ) (ids parties : List ℕ) (i : ℕ) (inv : party_seated ids parties players party ≡ party_seated (drop i ids) (drop i parties) players party) where
-  -- no id is left
-  pub seated_end : length ids ≤ i → true ≡ party_seated ids parties players party
-  unfolding party_seated
-  seated_end h = sym (inv ∙ rw (drop_of_length-le ids h))
-
-  -- no party is left
-  pub seated_short : length parties ≤ i → true ≡ party_seated ids parties players party
-  seated_short h = sym (inv ∙ rw (drop_of_length-le parties h) (no_rows players party (drop i ids)))
-
-  module _ (h : i < length ids) (k : i < length parties) where
-    -- the row at i is of the party, and its player is not among them
-    pub seated_not : not (eqb (get_or parties i 0) party && not (member (get_or ids i 0) players)) ≡ false → false ≡ party_seated ids parties players party
-    unfolding party_seated
-    seated_not e = sym (inv ∙ rw (drop-cons ids i 0 h, drop-cons parties i 0 k, not-false (eqb (get_or parties i 0) party && not (member (get_or ids i 0) players)) e))
-
-    -- the row at i passes: the rest decides
-    pub seated_on : not (eqb (get_or parties i 0) party && not (member (get_or ids i 0) players)) ≡ true → party_seated ids parties players party ≡ party_seated (drop (i + 1) ids) (drop (i + 1) parties) players party
-    unfolding party_seated
-    seated_on e = inv ∙ rw (drop-cons ids i 0 h, drop-cons parties i 0 k, not-true (eqb (get_or parties i 0) party && not (member (get_or ids i 0) players)) e, add-one i)
+-- a party is seated where every row of the two columns lets it be
+pub seated_rows : (players : List ℕ) (party : ℕ) (ids parties : List ℕ) → every (row_seated players party) (zip ids parties) ≡ party_seated ids parties players party
+unfolding seek party_seated
+seated_rows players party [] parties = refl
+seated_rows players party (id ∷ ids) [] = refl
+seated_rows players party (id ∷ ids) (p ∷ parties) =
+    cases (eqb p party && not (member id players)) (λ t. rw t) (λ f. rw f (seated_rows players party ids parties))
 
 -- parties hold exactly where everyone on a list of those seated has the whole party on that list
 pub parties_read : (r : Roster) (m : MatchState) (everyone : List ℕ) → everyone ≡ seated m → every (λ player. party_together r everyone (party_of r player)) everyone ≡ parties_hold r m

@@ -1,24 +1,25 @@
--- The laws of role counts, of a team's report, and of the answers of sizes, roles and teams.
+-- The laws of role counts, of a requirement, and of a team's report.
 use Prim.Native.Nat.{ℕ, suc, ◌+◌, ◌≤◌, ◌<◌}
+use Rattle.std.specs.Prelude.{None}
 use mathlib.Core.Path.{◌≡◌, refl, sym, ap, ◌∙◌}
-use mathlib.Core.Bool.{Bool, true, false, cond}
+use mathlib.Core.Bool.{Bool, true, false}
 use mathlib.Core.List.{List, [], ◌∷◌, ◌++◌}
 use native.Mathlib.Numerals.{add-one}
 use native.Mathlib.Omega.{arith}
 use borrow.Author.Tests.{lt-ltb, le-ltb, ltb-true, ltb-false, le-leb, lt-leb}
 use lib.Dec.{ltb}
-use lib.ListN.{length, take, drop, get_or, length-append}
+use lib.ListN.{length, drop, get_or, drop_of_length-le, length-append}
+use lib.Seq.{drop-cons}
 use Rattle.base.specs.Lists.{seek, every, keep}
-use Rattle.base.specs.Refusals.{gives}
-use Rattle.base.proofs.Arrays.{peel, peeled}
 use Rattle.base.proofs.Loops.{keep_append}
 use Rattle.base.proofs.Cases.{cases, never}
 use Rattle.base.proofs.Members.{length_keep}
 use Rattle.roster.specs.Roster.{Roster}
 use Rattle.constraint.specs.Constraints.{has_role, role_count, within_maximum, requirement_holds}
-use Rattle.constraint.specs.Refusing.{Report, valid, wrong_size, too_few, too_many, report_from}
-use Rattle.constraint.specs.declared.roles.Maximum.TheVariants.{Unbounded}
+use Rattle.constraint.specs.Refusing.{report_from}
 use Rattle.constraint.specs.declared.roles.RoleRequirement.{RoleRequirement}
+use Rattle.constraint.specs.declared.teams.Validity.{Validity}
+use Rattle.constraint.specs.declared.teams.Validity.TheVariants.{Valid, TooFew, TooMany}
 
 -- ---- role counts
 
@@ -41,7 +42,7 @@ role_count_fits r role ps = length_keep (has_role r role) ps
 
 -- what a requirement's array gives past its end
 abbrev pub no_requirement : RoleRequirement
-no_requirement = record { role = 0; least = 0; most = Unbounded }
+no_requirement = record { role = 0; least = 0; most = None }
 
 module _ (r : Roster) (ps : List ℕ) (q : RoleRequirement) where
   -- fewer than the minimum: it fails
@@ -68,44 +69,45 @@ module _ (r : Roster) (ps qs : List ℕ) (q : RoleRequirement) {x y : ℕ} (e : 
 -- ---- a team's report
 
 module _ (r : Roster) (team : List ℕ) where
-  module _ (es : List RoleRequirement) (n i : ℕ) (fits : n ≤ length es) (inv : report_from r team i (drop i (take n es)) ≡ report_from r team 0 (take n es)) where
-    -- the requirement at i asks for more than there are
-    pub report_few : i < n → role_count r (get_or es i no_requirement).role team < (get_or es i no_requirement).least → too_few i ≡ report_from r team 0 (take n es)
+  module _ (qs : List RoleRequirement) (i : ℕ) {w : Validity} (inv : report_from r team i (drop i qs) ≡ w) where
+    module _ (h : i < length qs) where
+      -- the requirement at i asks for more than there are
+      pub report_few : role_count r (get_or qs i no_requirement).role team < (get_or qs i no_requirement).least → TooFew i ≡ w
+      unfolding report_from
+      report_few e = sym (rw (drop-cons qs i no_requirement h, lt-ltb (role_count r (get_or qs i no_requirement).role team) (get_or qs i no_requirement).least e)) ∙ inv
+
+      module _ (e : (get_or qs i no_requirement).least ≤ role_count r (get_or qs i no_requirement).role team) where
+        -- there are enough, and more than the requirement at i allows
+        pub report_many : within_maximum (role_count r (get_or qs i no_requirement).role team) (get_or qs i no_requirement).most ≡ false → TooMany i ≡ w
+        unfolding report_from
+        report_many f = sym (rw (drop-cons qs i no_requirement h, le-ltb (role_count r (get_or qs i no_requirement).role team) (get_or qs i no_requirement).least e, f)) ∙ inv
+
+        -- the requirement at i holds: the rest reports
+        pub report_on : within_maximum (role_count r (get_or qs i no_requirement).role team) (get_or qs i no_requirement).most ≡ true → report_from r team (i + 1) (drop (i + 1) qs) ≡ w
+        unfolding report_from
+        report_on f = sym (rw (drop-cons qs i no_requirement h, le-ltb (role_count r (get_or qs i no_requirement).role team) (get_or qs i no_requirement).least e, f, add-one i)) ∙ inv
+
+    -- no requirement is left
+    pub report_end : length qs ≤ i → Valid ≡ w
     unfolding report_from
-    report_few h e = sym (rw (peel es n i no_requirement fits h, lt-ltb (role_count r (get_or es i no_requirement).role team) (get_or es i no_requirement).least e)) ∙ inv
-
-    module _ (h : i < n) (e : (get_or es i no_requirement).least ≤ role_count r (get_or es i no_requirement).role team) where
-      -- there are enough, and more than the requirement at i allows
-      pub report_many : within_maximum (role_count r (get_or es i no_requirement).role team) (get_or es i no_requirement).most ≡ false → too_many i ≡ report_from r team 0 (take n es)
-      unfolding report_from
-      report_many w = sym (rw (peel es n i no_requirement fits h, le-ltb (role_count r (get_or es i no_requirement).role team) (get_or es i no_requirement).least e, w)) ∙ inv
-
-      -- the requirement at i holds: the rest reports
-      pub report_on : within_maximum (role_count r (get_or es i no_requirement).role team) (get_or es i no_requirement).most ≡ true → report_from r team (i + 1) (drop (i + 1) (take n es)) ≡ report_from r team 0 (take n es)
-      unfolding report_from
-      report_on w = sym (rw (peel es n i no_requirement fits h, le-ltb (role_count r (get_or es i no_requirement).role team) (get_or es i no_requirement).least e, w, add-one i)) ∙ inv
-
-  -- no requirement is left
-  pub report_end : (es : List RoleRequirement) (n i : ℕ) → n ≤ length es → report_from r team i (drop i (take n es)) ≡ report_from r team 0 (take n es) → n ≤ i → i ≤ n → valid ≡ report_from r team 0 (take n es)
-  unfolding report_from
-  report_end es n i fits inv h k = sym (rw (peeled es n i fits h k)) ∙ inv
+    report_end h = sym (rw (drop_of_length-le qs h)) ∙ inv
 
   -- a report says valid only where every requirement holds of the team
-  pub valid_holds : (i : ℕ) (qs : List RoleRequirement) → report_from r team i qs ≡ valid → every (requirement_holds r team) qs ≡ true
+  pub valid_holds : (i : ℕ) (qs : List RoleRequirement) → report_from r team i qs ≡ Valid → every (requirement_holds r team) qs ≡ true
   unfolding report_from seek
   valid_holds i [] h = refl
   valid_holds i (q ∷ qs) h =
       cases (ltb (role_count r q.role team) q.least)
-      (λ t. never (let e : too_few i ≡ valid = rw t at h in cc))
+      (λ t. never (let e : TooFew i ≡ Valid = rw t at h in cc))
       (λ f.
       cases (within_maximum (role_count r q.role team) q.most)
       (λ w.
       rw (requirement_enough r team q (ltb-false (role_count r q.role team) q.least f), w)
       (valid_holds (suc i) qs (rw (f, w) at h)))
-      (λ w. never (let e : too_many i ≡ valid = rw (f, w) at h in cc)))
+      (λ w. never (let e : TooMany i ≡ Valid = rw (f, w) at h in cc)))
 
   -- where every requirement holds of the team, the report says valid
-  pub holds_valid : (i : ℕ) (qs : List RoleRequirement) → every (requirement_holds r team) qs ≡ true → report_from r team i qs ≡ valid
+  pub holds_valid : (i : ℕ) (qs : List RoleRequirement) → every (requirement_holds r team) qs ≡ true → report_from r team i qs ≡ Valid
   unfolding report_from seek
   holds_valid i [] h = refl
   holds_valid i (q ∷ qs) h =
@@ -119,14 +121,3 @@ module _ (r : Roster) (team : List ℕ) where
       cases (within_maximum (role_count r q.role team) q.most)
       (λ w. rw (f, w) (holds_valid (suc i) qs (rw (enough, w) at h)))
       (λ w. never (let e : false ≡ true = rw (enough, w) at h in cc)))
-
--- ---- a team's size comes before its report
-
-module _ (report : Report) where
-  -- another size than the stated one is the fault
-  pub wrong_size_lem : {same : Bool} → same ≡ false → gives wrong_size ≡ gives (cond same report wrong_size)
-  wrong_size_lem h = rw h
-
-  -- of the stated size: the requirements report
-  pub right_size : {same : Bool} → same ≡ true → gives report ≡ gives (cond same report wrong_size)
-  right_size h = rw h

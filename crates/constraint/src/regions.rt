@@ -1,14 +1,13 @@
 // Which regions may meet.
 ghost use Rattle.std.specs.Prelude.{◌≡◌, ◌&&◌, eqb, length};
 ghost use Rattle.base.specs.Lists.{any, every};
-ghost use Rattle.base.specs.Refusals.{checked_of};
+ghost use Rattle.base.specs.Refusals.{outcome_of};
 ghost use Rattle.roster.specs.Roster.{of_regions, region_of};
 ghost use Rattle.matchmaker.specs.Quality.{team_of, match_of};
 ghost use Rattle.constraint.specs.Constraints.{allows, may_meet, pairs_of, regions_hold};
-ghost use Rattle.constraint.specs.Refusing.{verdict_of, regions_over, is_pair, pairs_check, regions_rule};
+ghost use Rattle.constraint.specs.Refusing.{regions_over, is_pair, pairs_check, regions_rule};
 
-use crate::verdicts::Verdict;
-use base::{Checked, Refusal};
+use base::Refusal;
 use matchmaker::{ProposedMatch, Team};
 
 // Two regions that may meet.
@@ -32,30 +31,21 @@ impl RegionPair {
     fn is_just(self, x: u8, y: u8) -> bool
         ensures { result ≡ (eqb self.first x && eqb self.second y) }
     {
-        if self.first != x {
-            return false;
-        }
-        self.second == y
+        self.first == x && self.second == y
     }
 
     // Is it these two, either way round?
     fn is_of(self, x: u8, y: u8) -> bool
         ensures { result ≡ allows x y self }
     {
-        if self.is_just(x, y) {
-            return true;
-        }
-        self.is_just(y, x)
+        self.is_just(x, y) || self.is_just(y, x)
     }
 
     // Are both region codes?
     fn is_valid(self) -> bool
         ensures { result ≡ is_pair self }
     {
-        if 4 < self.first {
-            return false;
-        }
-        self.second <= 4
+        self.first <= 4 && self.second <= 4
     }
 }
 
@@ -75,66 +65,41 @@ impl RegionConstraint {
     }
 
     // Refusal 2 of a pair.
-    pub(crate) fn check(self) -> Checked
-        ensures { checked_of result ≡ pairs_check self }
+    pub(crate) fn check(self) -> Result<(), Refusal>
+        ensures { outcome_of result ≡ pairs_check self }
     {
-        let pairs = self.pairs;
-        let n = self.held();
-        let mut i: usize = 0;
-        while i < n {
-            let pair = pairs[i];
-            if !pair.is_valid() {
-                return Checked::Refused(Refusal::BadRoster);
-            }
-            i += 1;
+        if self.pairs[..self.held()].iter().all(|pair| pair.is_valid()) {
+            Ok(())
+        } else {
+            Err(Refusal::BadRoster)
         }
-        Checked::Passed
     }
 
     // Is a pair these two, either way round?
     fn is_allowed(self, x: u8, y: u8) -> bool
         ensures { result ≡ any (allows x y) (pairs_of self) }
     {
-        let pairs = self.pairs;
-        let n = self.held();
-        let mut i: usize = 0;
-        while i < n {
-            let pair = pairs[i];
-            if pair.is_of(x, y) {
-                return true;
-            }
-            i += 1;
-        }
-        false
+        self.pairs[..self.held()]
+            .iter()
+            .any(|pair| pair.is_of(x, y))
     }
 
     // May the two regions meet? One without a record may meet any.
     pub fn may_meet(self, x: u8, y: u8) -> bool
         ensures { result ≡ may_meet (pairs_of self) x y }
     {
-        if x == 4 {
-            return true;
-        }
-        if y == 4 {
-            return true;
-        }
-        self.is_allowed(x, y)
+        x == 4 || y == 4 || self.is_allowed(x, y)
     }
 
-    // May the region meet everyone's of the team?
-    fn meets_team(self, x: u8, team: Team, ids: &[u64], regions: &[u8]) -> bool
-        ensures { result ≡ every (λ q. may_meet (pairs_of self) x (region_of (of_regions ids.now regions.now) q)) (team_of team).players }
+    // May the player meet everyone of the team?
+    fn meets_team(self, player: u64, team: Team, ids: &[u64], regions: &[u8]) -> bool
+        ensures { result ≡ every (λ q. may_meet (pairs_of self) (region_of (of_regions ids.now regions.now) player) (region_of (of_regions ids.now regions.now) q)) (team_of team).players }
     {
-        let players = team.players;
-        let n = team.held();
-        let mut i: usize = 0;
-        while i < n {
-            if !self.may_meet(x, roster::region_of(ids, regions, players[i])) {
-                return false;
-            }
-            i += 1;
-        }
-        true
+        let region = roster::region_of(ids, regions, player);
+        team.players[..team.held()].iter().all(|&other| self.may_meet(
+            region,
+            roster::region_of(ids, regions, other),
+        ))
     }
 
     // May everyone of team A meet everyone of team B?
@@ -143,36 +108,24 @@ impl RegionConstraint {
     {
         let a = proposed.a;
         let b = proposed.b;
-        let players = a.players;
-        let n = a.held();
-        let mut i: usize = 0;
-        while i < n {
-            if !self.meets_team(roster::region_of(ids, regions, players[i]), b, ids, regions) {
-                return false;
-            }
-            i += 1;
-        }
-        true
+        a.players[..a.held()]
+            .iter()
+            .all(|&player| self.meets_team(player, b, ids, regions))
     }
 
-    pub fn is_satisfied(self, proposed: ProposedMatch, ids: &[u64], regions: &[u8]) -> Verdict
-        ensures { verdict_of result ≡ regions_rule (of_regions ids.now regions.now) self (match_of proposed) }
+    pub fn is_satisfied(
+        self,
+        proposed: ProposedMatch,
+        ids: &[u64],
+        regions: &[u8],
+    ) -> Result<bool, Refusal>
+        ensures { outcome_of result ≡ regions_rule (of_regions ids.now regions.now) self (match_of proposed) }
     {
-        if proposed.is_overfull() {
-            return Verdict::Refused(Refusal::OverLimit);
+        if proposed.is_overfull() || self.is_over() {
+            return Err(Refusal::OverLimit);
         }
-        if self.is_over() {
-            return Verdict::Refused(Refusal::OverLimit);
-        }
-        let lengths = [regions.len(), 0, 0, 0, 0];
-        if let Checked::Refused(refusal) = roster::check_columns_with_regions(
-            ids, lengths, 1, regions,
-        ) {
-            return Verdict::Refused(refusal);
-        }
-        if let Checked::Refused(refusal) = self.check() {
-            return Verdict::Refused(refusal);
-        }
-        crate::verdicts::judged(self.holds(proposed, ids, regions))
+        roster::check_columns_with_regions(ids, &[regions.len()], regions)?;
+        self.check()?;
+        Ok(self.holds(proposed, ids, regions))
     }
 }

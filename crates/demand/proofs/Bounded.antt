@@ -3,7 +3,7 @@ use Prim.Native.Nat.{ℕ, ◌≤◌}
 use mathlib.Core.Path.{◌≡◌, refl, ◌∙◌}
 use mathlib.Core.Bool.{true, false, not, ◌||◌}
 use mathlib.Core.List.{List, [], ◌∷◌, ◌++◌, map}
-use mathlib.Core.Option.{Option, none, some, get_or}
+use Rattle.std.specs.Prelude.{Option, None, Some, unwrap_or}
 use native.Mathlib.Omega.{arith}
 use borrow.Author.Tests.{le-ltb}
 use lib.Dec.{eqb, ltb}
@@ -86,13 +86,13 @@ turned_bounded h k d b = turn_elim (λ r. Bounded r.hall) h (signed k d) (deal d
 -- ---- a round
 
 -- the game that it serves is 0 to 7, and where it serves none the last one stays
-served_fits : (h : HallState) (r : Round) → no_last_game h.served ≡ false → no_last_game (get_or (served_by h r) h.served) ≡ false
+served_fits : (h : HallState) (r : Round) → no_last_game h.served ≡ false → no_last_game (unwrap_or (served_by h r) h.served) ≡ false
 served_fits h (of_game g m) l = l
 served_fits h (dispatch r) l = go (next_game (ready h) h.served) refl
   where
-    go : (x : Option ℕ) → next_game (ready h) h.served ≡ x → no_last_game (get_or x h.served) ≡ false
-    go none e = l
-    go (some g) e = rw (le-ltb 7 g (omega (arith, next_low (ready h) h.served g e)))
+    go : (x : Option ℕ) → next_game (ready h) h.served ≡ x → no_last_game (unwrap_or x h.served) ≡ false
+    go None e = l
+    go (Some g) e = rw (le-ltb 7 g (omega (arith, next_low (ready h) h.served g e)))
 
 -- who is seated leaves
 round_bounded : (h : HallState) (c : RoundCall) → Bounded h → Bounded (handled h (round c)).hall

@@ -3,7 +3,7 @@ use Prim.Native.Nat.{ℕ, ◌<◌}
 use mathlib.Core.Path.{◌≡◌, refl}
 use mathlib.Core.Bool.{Bool, true, false, cond}
 use mathlib.Core.List.{List, [], ◌∷◌, ◌++◌}
-use mathlib.Core.Option.{some}
+use Rattle.std.specs.Prelude.{Some}
 use lib.Dec.{ltb}
 use lib.ListN.{length}
 use borrow.Author.Tests.{ltb-true}
@@ -61,24 +61,24 @@ settled_answer ws new (refused n) = refl
 settled_answer ws new (gives u) = refl
 
 -- each answer of a booking is one that can be noted of it
-booking_read : (b : Booking) (waits room : Bool) → answer_in 0 (refusal_of (booking_answer b waits room)) ≡ some (booking_answer b waits room)
+booking_read : (b : Booking) (waits room : Bool) → answer_in 0 (refusal_of (booking_answer b waits room)) ≡ Some (booking_answer b waits room)
 unfolding booking_answer answer_in
 booking_read b waits room =
     cases (is_no_game b.game) (λ g. rw g) (λ g. cases (has_time_over b) (λ t. rw (g, t)) (λ t. rw (g, t) (in_time waits room)))
   where
-    in_time : (waits room : Bool) → (let a : Outcome (Unit {0}) = cond waits (refused 9) (cond room (gives tt) (refused 10)) in answer_in 0 (refusal_of a) ≡ some a)
+    in_time : (waits room : Bool) → (let a : Outcome (Unit {0}) = cond waits (refused 9) (cond room (gives tt) (refused 10)) in answer_in 0 (refusal_of a) ≡ Some a)
     in_time true room = refl
     in_time false true = refl
     in_time false false = refl
 
 -- and so of a withdrawal
-withdrawal_read : (waits : Bool) → answer_in 1 (refusal_of (withdrawal_answer waits)) ≡ some (withdrawal_answer waits)
+withdrawal_read : (waits : Bool) → answer_in 1 (refusal_of (withdrawal_answer waits)) ≡ Some (withdrawal_answer waits)
 unfolding answer_in
 withdrawal_read true = refl
 withdrawal_read false = refl
 
 -- the number that is noted of an answer stands for that answer
-pub read_back : (d : Deed) (ws : List Booking) → answer_in (content_of d).kind (refusal_of (deal d ws).answer) ≡ some (deal d ws).answer
+pub read_back : (d : Deed) (ws : List Booking) → answer_in (content_of d).kind (refusal_of (deal d ws).answer) ≡ Some (deal d ws).answer
 unfolding deal
 read_back (book b) ws = rw (settled_answer ws (ws ++ (b ∷ []))) (booking_read b (any (booked_by b.player) ws) (ltb (length ws) 64))
 read_back (withdraw p) ws = rw (settled_answer ws (without_guest p ws)) (withdrawal_read (any (booked_by p) ws))

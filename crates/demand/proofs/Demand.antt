@@ -3,7 +3,7 @@ use Prim.Native.Nat.{ℕ, ◌+◌}
 use mathlib.Core.Path.{◌≡◌, refl, sym, ap, ◌∙◌, subst}
 use mathlib.Core.Bool.{Bool, true, false}
 use mathlib.Core.List.{List, [], ◌∷◌, ◌++◌, map}
-use mathlib.Core.Option.{none, some}
+use Rattle.std.specs.Prelude.{None, Some}
 use native.Mathlib.Omega.{arith}
 use lib.ListN.{length}
 use Rattle.base.specs.Refusals.{Outcome, refused, gives}
@@ -54,7 +54,7 @@ repeated sizes pre c r =
     it = ap (keyed r.key) (same_deed r.first r.deed r.alike) ∙ sym r.call
 
 -- a full round one of whose soft kinds is none
-turned_away_lem : (h : HallState) (g : ℕ) (s : Sheets) → step h (no_kind g s) ≡ record { hall = h; answer = handed (record { answer = refused (no_kind_refusal g); sheets = s }) 0 none }
+turned_away_lem : (h : HallState) (g : ℕ) (s : Sheets) → step h (no_kind g s) ≡ record { hall = h; answer = handed (record { answer = refused (no_kind_refusal g); sheets = s }) 0 None }
 unfolding step
 turned_away_lem h g s = refl
 
@@ -86,7 +86,7 @@ module _ (sizes : List TeamComposition) (h : HallState) (c : RoundCall) (s : San
           (round_best h c f r g t p)
 
   -- the bookings of other games stay
-  others : (g : ℕ) → (game_of h c ≡ some g → ⊥) → eligible g (step h (round c)).hall.waiting.bookings ≡ eligible g h.waiting.bookings
+  others : (g : ℕ) → (game_of h c ≡ Some g → ⊥) → eligible g (step h (round c)).hall.waiting.bookings ≡ eligible g h.waiting.bookings
   unfolding step
   others g = round_others h c g s.orderly.players
 

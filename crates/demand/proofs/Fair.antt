@@ -3,7 +3,7 @@ use Prim.Native.Nat.{ℕ, zero, suc, ◌+◌, ◌≤◌, ◌<◌}
 use mathlib.Core.Path.{◌≡◌, refl, ap, ◌∙◌}
 use mathlib.Core.Bool.{true, false}
 use mathlib.Core.List.{List, [], ◌∷◌}
-use mathlib.Core.Option.{some}
+use Rattle.std.specs.Prelude.{Some}
 use native.Mathlib.Omega.{arith}
 use borrow.Author.Tests.{eqb-true}
 use lib.Dec.{eqb}
@@ -58,9 +58,9 @@ module _ (g : ℕ) (low : g < 8) where
       fits : one_if (dispatches (round c) (step h (round c)).answer) + n ≤ suc n
       fits = rw t (omega arith)
 
-      go : (x : ℕ) × (next_game (ready h) h.served ≡ some x) → ServedWithin h (round c ∷ cs) (suc n) g
+      go : (x : ℕ) × (next_game (ready h) h.served ≡ Some x) → ServedWithin h (round c ∷ cs) (suc n) g
       go (x, e) =
-          cases (eqb x g) (λ q. record { dispatch = here; early = omega arith; serves = d.names ∙ e ∙ ap some (eqb-true x g q) })
+          cases (eqb x g) (λ q. record { dispatch = here; early = omega arith; serves = d.names ∙ e ∙ ap Some (eqb-true x g q) })
           (λ q. served_behind h (round c) cs g n (suc n) fits
           (i (omega (arith, dispatch_nearer h c g x low t enough (d.names ∙ e) q))
           (enough_behind h (round c) cs g n (suc n) fits k) (omega (arith, rw t at m))))

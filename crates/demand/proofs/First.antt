@@ -4,13 +4,14 @@ use mathlib.Core.Path.{◌≡◌, refl, sym, ap, ◌∙◌}
 use mathlib.Core.Bool.{Bool, true, false, cond, ◌||◌, or-false}
 use mathlib.Core.Logic.{◌↔◌}
 use mathlib.Core.List.{List, [], ◌∷◌, ◌++◌, map, map-append}
-use mathlib.Core.Option.{Option, none, some}
+use Rattle.std.specs.Prelude.{Option, None, Some}
 use native.Mathlib.Omega.{arith}
 use borrow.Author.Tests.{ltb-true, ltb-false, lt-ltb, eqb-true}
 use lib.Dec.{eqb, ltb}
 use lib.ListN.{length, take, drop, length-append, length-map, length-take, take-append-drop}
 use lib.Seq.{take_all, take-append-le}
-use Rattle.base.specs.Lists.{seek, member, is_some}
+use Rattle.base.specs.Lists.{seek, member}
+use Rattle.std.specs.Prelude.{is_some}
 use Rattle.base.proofs.Cases.{cases, never}
 use Rattle.base.proofs.Loops.{any_append}
 use Rattle.hall.specs.Hall.{Deed, Signature, same, content_of, signed}
@@ -23,7 +24,7 @@ keys_in = map (λ s. s.key)
 
 -- the original of a key
 abbrev origin_of : ℕ → List Signature → Option Signature
-origin_of k = seek (λ t. eqb t.key k) some none
+origin_of k = seek (λ t. eqb t.key k) Some None
 
 -- a key has an original exactly where it is one of their keys
 origin_member : (k : ℕ) (o : List Signature) → is_some (origin_of k o) ≡ member k (keys_in o)
@@ -68,19 +69,19 @@ module _ (o : List Signature) (s : List ℕ) (e : keys_in o ≡ take 1024 s) whe
 
       go : (f : Option Signature) (t m : Bool) → origin_of k o ≡ f → ltb (length o) 1024 ≡ t → member k s ≡ m →
           keys_in (grow_by o (signed k d) (mark_by (length o) (signed k d) f)) ≡ take 1024 (cond m s (s ++ (k ∷ [])))
-      go none true true p q r =
+      go None true true p q r =
           let w : keys_in o ≡ s = whole (ltb-true _ _ q) in
-          let z : true ≡ false = sym r ∙ ap (member k) (sym w) ∙ has none p in
+          let z : true ≡ false = sym r ∙ ap (member k) (sym w) ∙ has None p in
           never cc
-      go none true false p q r =
+      go None true false p q r =
           let w : keys_in o ≡ s = whole (ltb-true _ _ q) in
           let l : length o < 1024 = ltb-true _ _ q in
           rw (q, map-append, w) (sym (take_all 1024 (s ++ (k ∷ [])) (rw length-append (omega (arith, as_many, ap length w)))))
-      go none false true p q r = rw q e
-      go none false false p q r = rw q (e ∙ sym (take-append-le 1024 s (k ∷ []) (long (ltb-false _ _ q))))
-      go (some u) t true p q r = rw (stays (same u.content (content_of d))) e
-      go (some u) t false p q r =
-          let z : true ≡ false = sym (member_take k 1024 s (ap (member k) (sym e) ∙ has (some u) p)) ∙ r in
+      go None false true p q r = rw q e
+      go None false false p q r = rw q (e ∙ sym (take-append-le 1024 s (k ∷ []) (long (ltb-false _ _ q))))
+      go (Some u) t true p q r = rw (stays (same u.content (content_of d))) e
+      go (Some u) t false p q r =
+          let z : true ≡ false = sym (member_take k 1024 s (ap (member k) (sym e) ∙ has (Some u) p)) ∙ r in
           never cc
 
 -- so after any calls the originals' keys are the first 1,024 of the different keys
@@ -117,29 +118,29 @@ different_member k s (x ∷ ks) = different_member k (cond (member x s) s (s ++ 
 -- ---- the mark `original`, read back
 
 -- the key has no original yet, and there is room for one
-record None (o : List Signature) (k : ℕ) : Type 0 where
-  unfound : origin_of k o ≡ none
+record Fresh (o : List Signature) (k : ℕ) : Type 0 where
+  unfound : origin_of k o ≡ None
   room : length o < 1024
 
 -- an original's key had none
-mark_none : (o : List Signature) (s : Signature) → mark_of o s ≡ original → None o s.key
+mark_none : (o : List Signature) (s : Signature) → mark_of o s ≡ original → Fresh o s.key
 unfolding mark_of
 mark_none o s e = go (origin_of s.key o) (ltb (length o) 1024) refl refl e
   where
-    go : (f : Option Signature) (t : Bool) → origin_of s.key o ≡ f → ltb (length o) 1024 ≡ t → mark_by (length o) s f ≡ original → None o s.key
-    go none true p q e = record { unfound = p; room = ltb-true _ _ q }
-    go none false p q e = never (let z : other ≡ original = rw q at e in cc)
-    go (some u) t p q e =
+    go : (f : Option Signature) (t : Bool) → origin_of s.key o ≡ f → ltb (length o) 1024 ≡ t → mark_by (length o) s f ≡ original → Fresh o s.key
+    go None true p q e = record { unfound = p; room = ltb-true _ _ q }
+    go None false p q e = never (let z : other ≡ original = rw q at e in cc)
+    go (Some u) t p q e =
         cases (same u.content s.content) (λ a. never (let z : resend ≡ original = rw a at e in cc))
         (λ a. never (let z : other ≡ original = rw a at e in cc))
 
 -- where there is none it is none
-is_none : (f : Option Signature) → is_some f ≡ false → f ≡ none
-is_none none e = refl
-is_none (some s) e = never cc
+is_none : (f : Option Signature) → is_some f ≡ false → f ≡ None
+is_none None e = refl
+is_none (Some s) e = never cc
 
 -- a key that has none makes an original
-none_mark : (o : List Signature) (s : Signature) → origin_of s.key o ≡ none → length o < 1024 → mark_of o s ≡ original
+none_mark : (o : List Signature) (s : Signature) → origin_of s.key o ≡ None → length o < 1024 → mark_of o s ≡ original
 unfolding mark_of
 none_mark o s e h = rw (e, lt-ltb (length o) 1024 h)
 
@@ -162,7 +163,7 @@ first_iff pre k d = (to, from)
 
     to : mark o (keyed k d) ≡ original → First pre k
     to m =
-        let n : None o k = mark_none o (signed k d) m in
+        let n : Fresh o k = mark_none o (signed k d) m in
         let w : keys_in o ≡ s = whole o s e n.room in
         record {
           new = sym seen ∙ ap (member k) (sym w) ∙ sym (origin_member k o) ∙ ap is_some n.unfound;

@@ -3,7 +3,7 @@ use Prim.Native.Nat.{ℕ}
 use mathlib.Core.Path.{◌≡◌, refl, sym, ◌∙◌}
 use mathlib.Core.Bool.{false}
 use mathlib.Core.List.{List, [], ◌∷◌, ◌++◌, append-nil}
-use mathlib.Core.Option.{some}
+use Rattle.std.specs.Prelude.{Some}
 use Rattle.base.specs.Refusals.{Outcome, refused, gives}
 use Rattle.base.proofs.Cases.{cases}
 use Rattle.base.proofs.Lookup.{found_append}
@@ -100,8 +100,8 @@ grows h c =
     (λ k d p e. record { behind = _; split = refl })
 
 -- a note that is found is found after any calls
-pub found_after : (k : ℕ) (n : KeyRecord) (h : HallState) (cs : List Call) → look_up k h.log.records ≡ some n → look_up k (after h cs).log.records ≡ some n
+pub found_after : (k : ℕ) (n : KeyRecord) (h : HallState) (cs : List Call) → look_up k h.log.records ≡ Some n → look_up k (after h cs).log.records ≡ Some n
 found_after k n h [] e = e
 found_after k n h (c ∷ cs) e =
     found_after k n (step h c).hall cs
-    (log_elim (λ rs. look_up k rs ≡ some n) h c e (λ j d p f. found_append (λ r. r.key) k n h.log.records _ e))
+    (log_elim (λ rs. look_up k rs ≡ Some n) h c e (λ j d p f. found_append (λ r. r.key) k n h.log.records _ e))

@@ -3,7 +3,7 @@ use Prim.Native.Nat.{ℕ}
 use mathlib.Core.Path.{◌≡◌, refl, sym, ap, ◌∙◌, subst}
 use mathlib.Core.Bool.{true, false, ◌&&◌}
 use mathlib.Core.List.{List, [], ◌∷◌, ◌++◌}
-use mathlib.Core.Option.{Option, none, some}
+use Rattle.std.specs.Prelude.{Option, None, Some}
 use Rattle.base.specs.Lists.{seek, any}
 use Rattle.base.specs.Refusals.{Outcome}
 use Rattle.base.proofs.Cases.{never}
@@ -29,10 +29,10 @@ record Born (h : HallState) (c : Call) (k : ℕ) (n : KeyRecord) : Type 0 where
   left : n ≡ note_of h k deed
 
 -- a key that has no note, and has one after a call, is that call's
-born : (h : HallState) (c : Call) (k : ℕ) (n : KeyRecord) → look_up k h.log.records ≡ none → look_up k (step h c).hall.log.records ≡ some n → Born h c k n
-born h c k n e = log_elim (λ rs. look_up k rs ≡ some n → Born h c k n) h c (λ f. never cc) here
+born : (h : HallState) (c : Call) (k : ℕ) (n : KeyRecord) → look_up k h.log.records ≡ None → look_up k (step h c).hall.log.records ≡ Some n → Born h c k n
+born h c k n e = log_elim (λ rs. look_up k rs ≡ Some n → Born h c k n) h c (λ f. never cc) here
   where
-    here : (j : ℕ) (d : Deed) → c ≡ keyed j d → judge h.log.records (signed j d) ≡ fresh → look_up k (h.log.records ++ (note_of h j d ∷ [])) ≡ some n → Born h c k n
+    here : (j : ℕ) (d : Deed) → c ≡ keyed j d → judge h.log.records (signed j d) ≡ fresh → look_up k (h.log.records ++ (note_of h j d ∷ [])) ≡ Some n → Born h c k n
     here j d p q f =
         let l : (k ≡ j) × (n ≡ note_of h j d) = found_new (λ r. r.key) k n (note_of h j d) h.log.records e f in
         subst (λ (i : ℕ). Born h c i n) (sym l.0) (record { deed = d; call = p; new = q; left = l.1 })
@@ -45,7 +45,7 @@ record Origin (h : HallState) (cs : List Call) (k : ℕ) (n : KeyRecord) : Type 
   split : cs ≡ before ++ (keyed k deed ∷ between)
   first : mark (originals (signatures h.log.records) before) (keyed k deed) ≡ original
   content : n.content ≡ content_of deed
-  answer : (a : Outcome (Unit {0})) → answer_in n.content.kind n.answer ≡ some a → (step (after h before) (keyed k deed)).answer ≡ answered a
+  answer : (a : Outcome (Unit {0})) → answer_in n.content.kind n.answer ≡ Some a → (step (after h before) (keyed k deed)).answer ≡ answered a
 
 -- the first of the calls left it
 origin_here : (h : HallState) (c : Call) (cs : List Call) (k : ℕ) (n : KeyRecord) → Sane h → Born h c k n → Origin h (c ∷ cs) k n
@@ -60,23 +60,23 @@ origin_here h c cs k n s b =
       answer = λ a e. ap (λ (x : Step). x.answer) (step_judged h k b.deed fresh s.bounded.within b.new) ∙ ap answered (told_by_lem a e);
     }
   where
-    given : (x y : Outcome (Unit {0})) → some x ≡ some y → x ≡ y
+    given : (x y : Outcome (Unit {0})) → Some x ≡ Some y → x ≡ y
     given x y e = cc
 
-    told_by_lem : (a : Outcome (Unit {0})) → answer_in n.content.kind n.answer ≡ some a → (deal b.deed h.waiting.bookings).answer ≡ a
+    told_by_lem : (a : Outcome (Unit {0})) → answer_in n.content.kind n.answer ≡ Some a → (deal b.deed h.waiting.bookings).answer ≡ a
     told_by_lem a e =
         given _ a
         (sym (read_back b.deed h.waiting.bookings) ∙ ap (λ (r : KeyRecord). answer_in r.content.kind r.answer) (sym b.left) ∙ e)
 
 -- a key that has no note, and has one after the calls, is that of an original among them
-trace : (h : HallState) (cs : List Call) (k : ℕ) (n : KeyRecord) → Sane h → look_up k h.log.records ≡ none → look_up k (after h cs).log.records ≡ some n → Origin h cs k n
+trace : (h : HallState) (cs : List Call) (k : ℕ) (n : KeyRecord) → Sane h → look_up k h.log.records ≡ None → look_up k (after h cs).log.records ≡ Some n → Origin h cs k n
 trace h [] k n s e f = never cc
 trace h (c ∷ cs) k n s e f = go (look_up k (step h c).hall.log.records) refl (trace (step h c).hall cs k n (sane_step h c s))
   where
     go : (o : Option KeyRecord) → look_up k (step h c).hall.log.records ≡ o →
-        (look_up k (step h c).hall.log.records ≡ none → look_up k (after (step h c).hall cs).log.records ≡ some n → Origin (step h c).hall cs k n) →
+        (look_up k (step h c).hall.log.records ≡ None → look_up k (after (step h c).hall cs).log.records ≡ Some n → Origin (step h c).hall cs k n) →
         Origin h (c ∷ cs) k n
-    go none p i =
+    go None p i =
         let r : Origin (step h c).hall cs k n = i p f in
         record {
           before = c ∷ r.before;
@@ -87,9 +87,9 @@ trace h (c ∷ cs) k n s e f = go (look_up k (step h c).hall.log.records) refl (
           content = r.content;
           answer = r.answer;
         }
-    go (some m) p i =
+    go (Some m) p i =
         let b : Born h c k m = born h c k m e p in
-        let q : look_up k (after (step h c).hall cs).log.records ≡ some m = found_after k m (step h c).hall cs p in
+        let q : look_up k (after (step h c).hall cs).log.records ≡ Some m = found_after k m (step h c).hall cs p in
         let u : m ≡ n = cc in
         subst (Origin h (c ∷ cs) k) u (origin_here h c cs k m s b)
 

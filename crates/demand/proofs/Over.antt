@@ -3,7 +3,7 @@ use Prim.Native.Nat.{ℕ}
 use mathlib.Core.Path.{◌≡◌, refl, sym, ap, ◌∙◌}
 use mathlib.Core.Bool.{Bool, true, false, cond, and-false}
 use mathlib.Core.List.{List, [], ◌∷◌, map}
-use mathlib.Core.Option.{none}
+use Rattle.std.specs.Prelude.{None}
 use native.Mathlib.Omega.{arith}
 use Rattle.base.specs.Refusals.{refused}
 use Rattle.base.specs.Lists.{seek, any}
@@ -26,8 +26,8 @@ round_refusal c = cond (names_no_game c.round) 13 1
 -- what is answered to a call
 abbrev pub refusal : Call → Answer
 refusal (keyed k d) = answered (refused 1)
-refusal (round c) = handed (record { answer = refused (round_refusal c); sheets = c.sheets }) 0 none
-refusal (no_kind g s) = handed (record { answer = refused (no_kind_refusal g); sheets = s }) 0 none
+refusal (round c) = handed (record { answer = refused (round_refusal c); sheets = c.sheets }) 0 None
+refusal (no_kind g s) = handed (record { answer = refused (no_kind_refusal g); sheets = s }) 0 None
 
 module _ (h : HallState) (over : is_over h ≡ true) where
   -- a round finds nothing

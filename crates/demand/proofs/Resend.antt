@@ -3,7 +3,7 @@ use Prim.Native.Nat.{ℕ}
 use mathlib.Core.Path.{◌≡◌, refl, sym, ap, ◌∙◌}
 use mathlib.Core.Bool.{false, cond}
 use mathlib.Core.List.{List, [], ◌∷◌, ◌++◌}
-use mathlib.Core.Option.{some}
+use Rattle.std.specs.Prelude.{Some}
 use Rattle.base.specs.Lists.{seek, any}
 use Rattle.base.proofs.Cases.{never, cond_true, cond_false}
 use Rattle.base.proofs.Lookup.{found_last}
@@ -35,7 +35,7 @@ after_append h (c ∷ cs) ds = after_append (step h c).hall cs ds
 
 module _ (h : HallState) (k : ℕ) (d : Deed) (s : Sane h) (new : judge h.log.records (signed k d) ≡ fresh) where
   -- it leaves its note
-  noted : look_up k (step h (keyed k d)).hall.log.records ≡ some (note_of h k d)
+  noted : look_up k (step h (keyed k d)).hall.log.records ≡ Some (note_of h k d)
   noted =
       rw (step_judged h k d fresh s.bounded.within new)
       (found_last (λ r. r.key) (note_of h k d) h.log.records (judge_fresh h.log.records (signed k d) new).unnoted)

@@ -1,7 +1,7 @@
 -- Document 01, "Hall (added)", with the dispatches of document 02, 2.4, and the resends of 2.5: lists of calls, their originals and resends,
 -- and the numbers that demand 3 speaks of.
 use Rattle.std.specs.Prelude.{ℕ, ◌+◌, Bool, true, false, cond, ◌&&◌, List, [], ◌∷◌, ◌++◌, eqb, ltb, length}
-use Rattle.std.proofs.Math.Option.{Option, none, some}
+use Rattle.std.specs.Prelude.{Option, None, Some}
 use Rattle.base.specs.Refusals.{Outcome, refused, gives}
 use Rattle.base.specs.Lists.{seek, member}
 use Rattle.matchmaker.specs.Quality.{MatchState}
@@ -35,7 +35,7 @@ pub record Step : Type 0 where
 
 -- a round that is refused and changes nothing
 abbrev pub turned_away : HallState → Sheets → ℕ → RoundTurn
-turned_away h s n = record { hall = h; handed = record { answer = refused n; sheets = s }; tried = 0; served = none }
+turned_away h s n = record { hall = h; handed = record { answer = refused n; sheets = s }; tried = 0; served = None }
 
 -- a soft kind that is none: 1, behind 13
 abbrev pub no_kind_refusal : ℕ → ℕ
@@ -69,11 +69,11 @@ pub data Mark : Type 0 where
 -- "An original is the first call with its key, for the first 1,024 different keys in the list. A resend is a later call with an
 -- original's key", "equal in this finer way"
 abbrev pub mark_by : ℕ → Signature → Option Signature → Mark
-mark_by n s none = cond (ltb n 1024) original other
-mark_by n s (some t) = cond (same t.content s.content) resend other
+mark_by n s None = cond (ltb n 1024) original other
+mark_by n s (Some t) = cond (same t.content s.content) resend other
 
 unfoldable pub mark_of : List Signature → Signature → Mark
-mark_of o s = mark_by (length o) s (seek (λ t. eqb t.key s.key) some none o)
+mark_of o s = mark_by (length o) s (seek (λ t. eqb t.key s.key) Some None o)
 
 abbrev pub grow_by : List Signature → Signature → Mark → List Signature
 grow_by o s original = o ++ (s ∷ [])
@@ -133,7 +133,7 @@ different seen (k ∷ ks) = different (cond (member k seen) seen (seen ++ (k ∷
 
 -- the game that an answer says was served
 abbrev pub served_of : Answer → Option ℕ
-served_of (answered a) = none
+served_of (answered a) = None
 served_of (handed h tried served) = served
 
 abbrev pub matches_handed : List TeamComposition → Call → Answer → List MatchState

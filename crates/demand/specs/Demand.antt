@@ -1,6 +1,6 @@
 -- Demand 3: one statement over every list of calls from an empty hall.
 use Rattle.std.specs.Prelude.{ℕ, ◌+◌, ◌≤◌, ◌<◌, ◌≡◌, Bool, false, ◌↔◌, List, [], ◌∷◌, ◌++◌, map, length}
-use Rattle.std.proofs.Math.Option.{none, some}
+use Rattle.std.specs.Prelude.{None, Some}
 use Rattle.base.specs.Refusals.{Outcome, refused, gives}
 use Rattle.base.specs.Lists.{any, member, Distinct}
 use Rattle.seating.specs.declared.TeamComposition.{TeamComposition}
@@ -101,7 +101,7 @@ pub record Demand3 (sizes : List TeamComposition) (calls : List Call) : Type 0 w
       Seating (sizes_in (after (empty sizes) pre) c) (entries_in (after (empty sizes) pre) c)
       (matches_handed sizes (round c) (step (after (empty sizes) pre) (round c)).answer)
   -- a round of one game leaves the bookings of every other as they are
-  pub others : (pre post : List Call) (c : RoundCall) (g : ℕ) → calls ≡ pre ++ (round c ∷ post) → (game_of (after (empty sizes) pre) c ≡ some g → ⊥) →
+  pub others : (pre post : List Call) (c : RoundCall) (g : ℕ) → calls ≡ pre ++ (round c ∷ post) → (game_of (after (empty sizes) pre) c ≡ Some g → ⊥) →
       eligible g (step (after (empty sizes) pre) (round c)).hall.waiting.bookings ≡ eligible g (after (empty sizes) pre).waiting.bookings
   -- a full round not refused hands out a match exactly when some choice passes, and no other passing choice scores higher
   pub fulls : (pre post : List Call) (g : ℕ) (t : Terms) (c : RoundCall) (n : ℕ) → calls ≡ pre ++ (round c ∷ post) →
@@ -111,4 +111,4 @@ pub record Demand3 (sizes : List TeamComposition) (calls : List Call) : Type 0 w
   -- a full round one of whose soft kinds is none answers 1, or 13, and leaves the hall and its sheets as they were
   pub no_kinds : (pre post : List Call) (g : ℕ) (s : Sheets) → calls ≡ pre ++ (no_kind g s ∷ post) →
       step (after (empty sizes) pre) (no_kind g s)
-      ≡ record { hall = after (empty sizes) pre; answer = handed (record { answer = refused (no_kind_refusal g); sheets = s }) 0 none }
+      ≡ record { hall = after (empty sizes) pre; answer = handed (record { answer = refused (no_kind_refusal g); sheets = s }) 0 None }

@@ -1,6 +1,6 @@
 -- Document 02, 2.4: "A game that keeps enough is served within eight dispatches not refused, for every list of other calls between them."
 use Rattle.std.specs.Prelude.{ℕ, ◌≤◌, ◌<◌, ◌≡◌, true, List, ◌∷◌, ◌++◌}
-use Rattle.std.proofs.Math.Option.{some}
+use Rattle.std.specs.Prelude.{Some}
 use Rattle.seating.specs.declared.TeamComposition.{TeamComposition}
 use Rattle.hall.specs.Hall.{HallState, empty}
 use Rattle.hall.specs.Rounds.{RoundCall, ready}
@@ -25,7 +25,7 @@ module _ (h : HallState) (calls : List Call) where
 
   -- it serves game g, and says so
   abbrev pub Serves : ℕ → Dispatch → Type 0
-  Serves g d = served_of (step (after h d.before) (round d.call)).answer ≡ some g
+  Serves g d = served_of (step (after h d.before) (round d.call)).answer ≡ Some g
 
   -- the game has enough at each of the first n dispatches not refused
   abbrev pub KeepsEnough : ℕ → ℕ → Type 0

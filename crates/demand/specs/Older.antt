@@ -1,7 +1,7 @@
 -- Document 02, 2.5: "An evening under way keeps running." Notes of which only kind and guest were noted come only with a hall that is handed in, so
 -- demand 3, which begins with an empty one, says nothing of them; this is promised of them, behind any calls.
 use Rattle.std.specs.Prelude.{ℕ, ◌≤◌, ◌≡◌, true, false, List, length}
-use Rattle.std.proofs.Math.Option.{some}
+use Rattle.std.specs.Prelude.{Some}
 use Rattle.base.specs.Refusals.{Outcome, refused}
 use Rattle.base.specs.Lists.{keep}
 use Rattle.hall.specs.declared.Booking.{Booking}
@@ -20,10 +20,10 @@ pub record Stated (h : HallState) : Type 0 where
 -- the key has such a note, of this guest, with this answer
 pub record NotedBefore (h : HallState) (k guest : ℕ) (a : Outcome (Unit {0})) : Type 0 where
   pub note : KeyRecord
-  pub found : look_up k h.log.records ≡ some note
+  pub found : look_up k h.log.records ≡ Some note
   pub older : is_older note.content.kind ≡ true
   pub player : note.content.held.player ≡ guest
-  pub answer : answer_in note.content.kind note.answer ≡ some a
+  pub answer : answer_in note.content.kind note.answer ≡ Some a
 
 -- its key answers "as before", and the hall stays
 pub record AsBefore (h : HallState) (k guest : ℕ) (a : Outcome (Unit {0})) : Type 0 where

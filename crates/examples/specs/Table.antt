@@ -1,6 +1,6 @@
 -- Document 01, "At the table": the starred lines, as one theorem that ranges over a list of them; and lines of document 02.
 use Rattle.std.specs.Prelude.{ℕ, ◌-◌, ◌≡◌, Bool, true, false, List, [], ◌∷◌, ◌++◌, map, Float, length, take, replicate}
-use Rattle.std.proofs.Math.Option.{Option, none, some}
+use Rattle.std.specs.Prelude.{Option, None, Some}
 use Rattle.std.specs.Float.{nan, inf, binary64}
 use Rattle.std.specs.Float.Ieee.{of_bits}
 use Rattle.base.specs.Floats.{zero, one}
@@ -183,7 +183,7 @@ abbrev paired_in : Option ℕ → ℕ → ℕ → Answer
 paired_in served p q = handing 1 (p ∷ q ∷ []) (one ∷ []) 0 served
 
 abbrev paired : ℕ → ℕ → Answer
-paired = paired_in none
+paired = paired_in None
 
 -- a dispatch among such guests
 abbrev dispatching : Call
@@ -201,11 +201,11 @@ choosing_for game =
     0 (sheet [] 0) (sheet [] zero))
 
 abbrev chose : List ℕ → ℕ → Answer
-chose players n = handing 1 players (zero ∷ []) n none
+chose players n = handing 1 players (zero ∷ []) n None
 
 -- the refusal of a round, which writes nothing
 abbrev turned_down : ℕ → Answer
-turned_down n = handed (record { answer = refused n; sheets = sheets [] [] }) 0 none
+turned_down n = handed (record { answer = refused n; sheets = sheets [] [] }) 0 None
 
 -- the note of a call: answer, key, kind and what it holds
 abbrev noted_as : ℕ → ℕ → ℕ → Booking → KeyRecord
@@ -260,13 +260,13 @@ abbrev pub circling_last : List Call
 circling_last = dispatching ∷ dispatching ∷ []
 
 abbrev pub circled : List Answer
-circled = accepted ∷ accepted ∷ accepted ∷ accepted ∷ paired_in (some 0) 3 4 ∷ []
+circled = accepted ∷ accepted ∷ accepted ∷ accepted ∷ paired_in (Some 0) 3 4 ∷ []
 
 abbrev pub circled_on : List Answer
-circled_on = accepted ∷ accepted ∷ paired_in (some 3) 1 2 ∷ []
+circled_on = accepted ∷ accepted ∷ paired_in (Some 3) 1 2 ∷ []
 
 abbrev pub circled_last : List Answer
-circled_last = paired_in (some 0) 5 6 ∷ handing 0 [] [] 0 none ∷ []
+circled_last = paired_in (Some 0) 5 6 ∷ handing 0 [] [] 0 None ∷ []
 
 abbrev pub circled_hall : HallState
 circled_hall = leaving three_games 0 (waiter_for 3 1 ∷ waiter_for 3 2 ∷ []) (noted_for 3 1 1 ∷ noted_for 3 2 2 ∷ noted 3 3 ∷ noted 4 4 ∷ [])
@@ -318,14 +318,14 @@ Holds (equal_vectors v) = dominates_of v v ≡ false
 Holds (greedy s ms qs) = (greedy_matches s rostered guests ≡ ms) × (map (λ m. quality_of rostered m.a.players m.b.players) ms ≡ qs)
 Holds (beam s width o) = beam_matches (beaming s width by_quality rostered guests 0) guests ≡ o
 Holds (exhaustive s queue ms) = exhaustive_matches s queue ≡ ms
-Holds (full s queue os m n) = chosen (terms rostered unconstrained false os (length os)) s queue ≡ gives (record { best = some m; tried = n })
+Holds (full s queue os m n) = chosen (terms rostered unconstrained false os (length os)) s queue ≡ gives (record { best = Some m; tried = n })
 Holds (at_home party parties friends best) = chosen (terms household (constrained parties) friends (Wait one ∷ []) 1) (sizes 1 1) (came party) ≡ gives (record { best = best; tried = 3 })
 Holds (calls cs os n) = (answers (empty one_game) cs ≡ map answered os) × (length (after (empty one_game) cs).waiting.bookings ≡ n)
 Holds (story sizes cs rs os h) = (resends cs ≡ rs) × (Told (empty sizes) cs os h × Told (empty sizes) (thin rs cs) (thin rs os) h)
 Holds (stays h cs os) = Told h cs (map answered os) h
 Holds (turns last games) = circle last ≡ games
 Holds (serves sizes cs ds os) = map served_of (answers (after (empty sizes) cs) ds) ≡ os
-Holds (pick reference queue e) = nearest reference [] queue ≡ some e
+Holds (pick reference queue e) = nearest reference [] queue ≡ Some e
 
 -- "Differences 0, 100, 400, NaN: 1.0, 0.75, 0.0, 0.0." "Equal vectors do not dominate." "Greedy 2+2: A {1, 4}, B {3, 2}, quality
 -- 0.75." "Greedy 0+1: none." "Beam width 0: 1+1 none; 1+0 one match a guest." "Exhaustive 2+2: A {1, 2}, B {3, 4} only."
@@ -380,11 +380,11 @@ lines =
     ∷ pick thousand (joining 5 1 r1010 ∷ joining 3 2 r990 ∷ []) (joining 3 2 r990)
     ∷ pick thousand (joining 3 1 r1010 ∷ joining 5 2 thousand ∷ []) (joining 5 2 thousand)
     ∷ pick thousand (joining 0 1 nan ∷ joining 0 2 (inf false) ∷ joining 5 3 r990 ∷ []) (joining 5 3 r990)
-    ∷ at_home 7 false false (some (pair 2 3))
-    ∷ at_home 7 true false none
-    ∷ at_home 7 false true (some (pair 1 2))
-    ∷ at_home 7 true true none
-    ∷ at_home 0 false true (some (pair 2 3))
+    ∷ at_home 7 false false (Some (pair 2 3))
+    ∷ at_home 7 true false None
+    ∷ at_home 7 false true (Some (pair 1 2))
+    ∷ at_home 7 true true None
+    ∷ at_home 0 false true (Some (pair 2 3))
     ∷ turns 255 (0 ∷ 1 ∷ 2 ∷ 3 ∷ 4 ∷ 5 ∷ 6 ∷ 7 ∷ [])
     ∷ turns 3 (4 ∷ 5 ∷ 6 ∷ 7 ∷ 0 ∷ 1 ∷ 2 ∷ 3 ∷ [])
     ∷ story three_games
@@ -395,12 +395,12 @@ lines =
     ∷ story three_games
     (booking_for 5 1 1 ∷ dispatching ∷ [])
     (false ∷ false ∷ [])
-    (accepted ∷ handing 0 [] [] 0 (some 5) ∷ [])
+    (accepted ∷ handing 0 [] [] 0 (Some 5) ∷ [])
     (leaving three_games 5 (waiter_for 5 1 ∷ []) (noted_for 5 1 1 ∷ []))
     ∷ serves solo_games
     (booking_for 0 10 1 ∷ booking_for 1 11 2 ∷ booking_for 2 12 3 ∷ booking_for 3 13 4 ∷ booking_for 4 14 5 ∷ booking_for 5 15 6 ∷ booking_for 6 16 7 ∷ booking_for 7 17 8 ∷ [])
     (replicate 9 dispatching)
-    (some 0 ∷ some 1 ∷ some 2 ∷ some 3 ∷ some 4 ∷ some 5 ∷ some 6 ∷ some 7 ∷ none ∷ [])
+    (Some 0 ∷ Some 1 ∷ Some 2 ∷ Some 3 ∷ Some 4 ∷ Some 5 ∷ Some 6 ∷ Some 7 ∷ None ∷ [])
     ∷ story one_game
     (booking_for 8 1 1 ∷ booking_for 8 1 1 ∷ booking 1 2 ∷ booking 2 1 ∷ [])
     (false ∷ true ∷ false ∷ false ∷ [])

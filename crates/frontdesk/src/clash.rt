@@ -99,22 +99,16 @@ fn guest(noted: u64, given: u64) {
 
 // ---- what the key stands for
 
-#[derive(Clone, Copy)]
-enum Noted {
-    Nothing,
-    As(Note),
-}
-
 // The note of a key.
-fn note_of(hall: Hall, key: u64) -> Noted {
+fn note_of(hall: Hall, key: u64) -> Option<Note> {
     let keys = hall.keys;
     let all = hall.notes;
     let n = hall.noted;
     let at = notes::place_of(&keys, n, key);
     if at < n && at < 1024 {
-        return Noted::As(all[at]);
+        return Some(all[at]);
     }
-    Noted::Nothing
+    None
 }
 
 // `key 7 stands for another booking`
@@ -169,7 +163,7 @@ fn new_key(hall: Hall, guest: u64) {
 // Why a booking clashes. `from_row` are the fields that it has from the guest's row.
 pub fn booking(hall: Hall, key: u64, booking: Booking, from_row: u32) {
     let read = note_of(hall, key);
-    let Noted::As(note) = read else {
+    let Some(note) = read else {
         return;
     };
     unlike(key, note, booking, from_row);
@@ -183,7 +177,7 @@ pub fn booking(hall: Hall, key: u64, booking: Booking, from_row: u32) {
 // Why a withdrawal clashes.
 pub fn withdrawal(hall: Hall, key: u64, player: u64) {
     let read = note_of(hall, key);
-    let Noted::As(note) = read else {
+    let Some(note) = read else {
         return;
     };
     if note.kind == 1 {

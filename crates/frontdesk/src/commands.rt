@@ -1,6 +1,5 @@
 // The commands, by the first word of a line. A line that cannot be served changes nothing.
 use crate::desk::Desk;
-use crate::entries::Entered;
 use crate::fields::Fields;
 use crate::guests::Row;
 use crate::numbers::Problem;
@@ -24,10 +23,7 @@ pub fn serve(desk: Desk, text: &[u8], number: u64) -> Desk {
     if command.is_end() {
         return desk;
     }
-    let heard = Heard {
-        number: number,
-        command: command,
-    };
+    let heard = Heard { number, command };
     let name = words::bytes_of(text, command);
     if same(name, b"open") {
         return games::open(desk, text, heard);
@@ -147,7 +143,7 @@ fn guest(desk: Desk, text: &[u8], heard: Heard) -> Desk {
 // The row that the fields give: 0, and no region, where they give nothing.
 fn row_of(guest: u64, given: Fields) -> Row {
     Row {
-        guest: guest,
+        guest,
         rating: given.real(fields::RATING),
         deviation: given.real(fields::DEVIATION),
         party: given.whole(fields::PARTY),
@@ -195,7 +191,7 @@ fn book(desk: Desk, text: &[u8], heard: Heard) -> Desk {
     }
     let given = fields::read(text, heard, heard.behind(), BOOKED, BOOKING);
     let read = entries::entry_of(desk.roster, given, text, heard);
-    let Entered::As(entry) = read else {
+    let Some(entry) = read else {
         return desk;
     };
     let hall = desk.hall;

@@ -21,13 +21,11 @@ fn printable(b: u8) -> u8 {
 
 // The first 24 bytes of a word.
 fn shown(word: &[u8]) {
-    let mut i: usize = 0;
-    while i < word.len() {
+    for i in 0..word.len() {
         if 23 < i {
             return;
         }
         print::byte(printable(word[i]));
-        i += 1;
     }
 }
 

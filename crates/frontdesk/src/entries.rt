@@ -5,7 +5,6 @@ use crate::words::Heard;
 use crate::{commands, complaints, fields};
 use hall::Booking;
 use queue::QueueEntry;
-use roster::Observed;
 
 pub const NEEDED: u32 = fields::GUEST | fields::JOINED;
 
@@ -14,25 +13,19 @@ const ROW: u32 = fields::RATING | fields::PARTY | fields::ROLE;
 
 pub const ALLOWED: u32 = NEEDED | ROW;
 
-#[derive(Clone, Copy)]
-pub enum Entered {
-    // A complaint was made.
-    Nothing,
-    As(QueueEntry),
-}
-
 // Rating, party and role are else those of the guest's row; without a row the rating has to be given.
-pub fn entry_of(roster: Roster, given: Fields, text: &[u8], heard: Heard) -> Entered {
+// Nothing where a complaint was made.
+pub fn entry_of(roster: Roster, given: Fields, text: &[u8], heard: Heard) -> Option<QueueEntry> {
     if !given.ok {
-        return Entered::Nothing;
+        return None;
     }
     let guest = given.whole(fields::GUEST);
     let rating = rating_of(given, roster.rating_of(guest));
-    let Observed::Of(rated) = rating else {
+    let Some(rated) = rating else {
         complaints::needs_rating(text, heard, guest);
-        return Entered::Nothing;
+        return None;
     };
-    Entered::As(QueueEntry {
+    Some(QueueEntry {
         player: guest,
         joined: given.whole(fields::JOINED),
         rating: rated,
@@ -49,7 +42,7 @@ pub fn booking_of(entry: QueueEntry, game: u8) -> Booking {
         rating_bits: base::to_bits(entry.rating),
         party: entry.party,
         role: entry.role,
-        game: game,
+        game,
     }
 }
 
@@ -62,9 +55,9 @@ pub fn left_to_row(roster: Roster, given: Fields) -> u32 {
 }
 
 // The rating that is given, or else the roster's.
-fn rating_of(given: Fields, rostered: Observed) -> Observed {
+fn rating_of(given: Fields, rostered: Option<f64>) -> Option<f64> {
     if given.has(fields::RATING) {
-        return Observed::Of(given.real(fields::RATING));
+        return Some(given.real(fields::RATING));
     }
     rostered
 }

@@ -59,7 +59,7 @@ fn place_of(field: u32) -> usize {
 impl Fields {
     fn none(at: usize) -> Fields {
         Fields {
-            at: at,
+            at,
             seen: 0,
             wholes: [0; 17],
             reals: [0.0; 17],
@@ -247,13 +247,11 @@ fn goes_on(text: &[u8], fields: Fields) -> bool {
 // Every field from `at` to the line's end. Each turn reads a new one of seventeen, so that eighteen are enough.
 fn read_all(text: &[u8], heard: Heard, at: usize, allowed: u32) -> Fields {
     let mut fields = Fields::none(at);
-    let mut turns: usize = 18;
-    while 0 < turns {
+    for _ in 0..18 {
         if !goes_on(text, fields) {
             return fields;
         }
         fields = one_more(text, heard, fields, allowed);
-        turns -= 1;
     }
     fields
 }

@@ -25,7 +25,7 @@ impl Opening {
         Opening {
             sizes: [TeamComposition { a: 0, b: 0 }; 8],
             count: 0,
-            at: at,
+            at,
             ok: true,
         }
     }
@@ -92,14 +92,12 @@ fn read(text: &[u8], heard: Heard) -> Opening {
 // The first eight games of the line.
 fn read_all(text: &[u8], heard: Heard) -> Opening {
     let mut opening = one_more(text, heard, Opening::none(heard.behind()));
-    let mut turns: usize = 7;
-    while 0 < turns {
+    for _ in 0..7 {
         let word = words::next(text, opening.at);
         if word.is_end() || !opening.ok {
             return opening;
         }
         opening = one_more(text, heard, opening);
-        turns -= 1;
     }
     opening
 }
@@ -161,14 +159,12 @@ pub fn is_used(sizes: TeamComposition) -> bool {
 
 // The first `count` games, a line for each.
 fn list(sizes: [TeamComposition; 8], count: usize) {
-    let mut game: u8 = 0;
-    while game < 8 {
+    for game in 0..8 {
         if count <= game as usize {
             return;
         }
         title(game, hall::games::sizes_of(sizes, game));
         print::text(b"\n");
-        game += 1;
     }
 }
 
@@ -176,8 +172,7 @@ fn list(sizes: [TeamComposition; 8], count: usize) {
 
 // The game that a guest waits for, and 255 where the guest doesn't wait.
 pub fn of_guest(bookings: [Booking; 64], n: usize, guest: u64) -> u8 {
-    let mut i: usize = 0;
-    while i < 64 {
+    for i in 0..64 {
         if n <= i {
             return 255;
         }
@@ -185,7 +180,6 @@ pub fn of_guest(bookings: [Booking; 64], n: usize, guest: u64) -> u8 {
         if booking.player == guest {
             return booking.game;
         }
-        i += 1;
     }
     255
 }

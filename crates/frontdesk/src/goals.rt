@@ -118,13 +118,7 @@ fn list(goals: SoftObjectives) {
     if n == 0 {
         print::text(b"no goals\n");
     }
-    let mut i: usize = 0;
-    while i < 8 {
-        if i < n {
-            line(kinds[i], weights[i]);
-            i += 1;
-        } else {
-            i += 1;
-        }
+    for i in 0..n.min(8) {
+        line(kinds[i], weights[i]);
     }
 }

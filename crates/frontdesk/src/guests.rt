@@ -1,6 +1,5 @@
 // The guests' roster rows, kept as the columns that the hall is lent.
 use crate::counts;
-use roster::Observed;
 
 // The first `rows` of each column.
 #[derive(Clone, Copy)]
@@ -50,7 +49,7 @@ impl Roster {
     }
 
     // The roster's rating of a guest.
-    pub fn rating_of(self, guest: u64) -> Observed {
+    pub fn rating_of(self, guest: u64) -> Option<f64> {
         let ids = self.ids;
         let ratings = self.ratings;
         let n = counts::wholes(self.rows, &ids);

@@ -91,22 +91,18 @@ fn serve_lines(part: &[u8], session: Session) -> Session {
     let mut desk = session.desk;
     let mut line = session.line;
     let shown = session.shown;
-    let mut i: usize = 0;
-    while i < part.len() {
-        let b = part[i];
+    for &b in part {
         if b == b'\n' {
             desk = serve(desk, line, shown);
             line = line.next();
-            i += 1;
         } else {
             line = line.with(b);
-            i += 1;
         }
     }
     Session {
-        desk: desk,
-        line: line,
-        shown: shown,
+        desk,
+        line,
+        shown,
         more: !desk.closed,
     }
 }
@@ -119,8 +115,8 @@ fn ended(session: Session) -> Session {
         complaints::cut_short(line.number);
     }
     Session {
-        desk: desk,
-        line: line,
+        desk,
+        line,
         shown: session.shown,
         more: false,
     }
@@ -147,7 +143,7 @@ fn start(shown: bool) -> Session {
     Session {
         desk: Desk::fresh(),
         line: Line::first(),
-        shown: shown,
+        shown,
         more: true,
     }
 }

@@ -8,31 +8,25 @@ use queue::{Queue, QueueEntry};
 
 // ---- who waits
 
-#[derive(Clone, Copy)]
-enum Clock {
-    // A complaint was made, or the clock was refused.
-    Nothing,
-    At(u64),
-}
-
 // `queue at 120s`
-fn clock_of(text: &[u8], heard: Heard) -> Clock {
+// Nothing where a complaint was made, or the clock was refused.
+fn clock_of(text: &[u8], heard: Heard) -> Option<u64> {
     let given = fields::read(text, heard, heard.behind(), fields::AT, fields::AT);
     if !given.ok {
-        return Clock::Nothing;
+        return None;
     }
     let clock = given.whole(fields::AT);
     if queue::time::is_over(clock) {
         refusals::refused(Refusal::Clock);
-        return Clock::Nothing;
+        return None;
     }
-    Clock::At(clock)
+    Some(clock)
 }
 
 // Who waits in the hall.
 pub fn queue(hall: Hall, text: &[u8], heard: Heard) {
     let read = clock_of(text, heard);
-    let Clock::At(clock) = read else {
+    let Some(clock) = read else {
         return;
     };
     if hall.waiting == 0 {
@@ -44,10 +38,8 @@ pub fn queue(hall: Hall, text: &[u8], heard: Heard) {
 
 // Game by game, so that each guest's place is the one that a round of the game goes by.
 fn each_game(hall: Hall, clock: u64) {
-    let mut game: u8 = 0;
-    while game < 8 {
+    for game in 0..8 {
         of_game(hall, game, clock);
-        game += 1;
     }
 }
 
@@ -67,7 +59,7 @@ fn of_game(hall: Hall, game: u8, clock: u64) {
 // Who waits in a queue of the old counter.
 pub fn old_queue(old: Queue, text: &[u8], heard: Heard) {
     let read = clock_of(text, heard);
-    let Clock::At(clock) = read else {
+    let Some(clock) = read else {
         return;
     };
     if old.len == 0 {
@@ -93,14 +85,12 @@ fn waiters(waiting: Queue, clock: u64) {
     let queued = waiting.entries;
     let n = waiting.len;
     print::text(b"  place       guest      rating   party    role      waited\n");
-    let mut i: usize = 0;
-    while i < 64 {
+    for i in 0..64 {
         if n <= i {
             return;
         }
         let entry = queued[i];
         waiter(i + 1, entry, clock);
-        i += 1;
     }
 }
 
@@ -161,14 +151,12 @@ fn book(hall: Hall) {
     print::text(
         b"         key  call           guest  game      joined      rating  party  role  answer\n",
     );
-    let mut i: usize = 0;
-    while i < 1024 {
+    for i in 0..1024 {
         if n <= i {
             return;
         }
         let note = notes[i];
         noted(keys[i], note);
-        i += 1;
     }
 }
 
@@ -185,17 +173,9 @@ fn is_accepted(note: Note, kind: u8) -> bool {
 // How many of the first n notes are of accepted calls of a kind.
 fn accepted(notes: [Note; 1024], n: usize, kind: u8) -> u64 {
     let mut count: u64 = 0;
-    let mut i: usize = 0;
-    while i < 1024 {
-        if n <= i {
-            return count;
-        }
-        let note = notes[i];
-        if is_accepted(note, kind) {
+    for i in 0..n.min(1024) {
+        if is_accepted(notes[i], kind) {
             count = std::num::wrapping_add_u64(count, 1);
-            i += 1;
-        } else {
-            i += 1;
         }
     }
     count
@@ -218,10 +198,8 @@ pub fn totals(hall: Hall, tally: Tally, text: &[u8], heard: Heard) {
 }
 
 fn each_total(hall: Hall, tally: Tally) {
-    let mut game: u8 = 0;
-    while game < 8 {
+    for game in 0..8 {
         total(hall, tally, game);
-        game += 1;
     }
 }
 

@@ -125,19 +125,14 @@ impl Digits {
 // The digits of a word.
 fn digits_of(word: &[u8]) -> Digits {
     let mut read = Digits::none();
-    let mut i: usize = 0;
-    while i < word.len() {
+    for i in 0..word.len() {
         read = read.with(word[i]);
-        i += 1;
     }
     read
 }
 
 fn bad_whole(problem: Problem) -> ReadWhole {
-    ReadWhole {
-        value: 0,
-        problem: problem,
-    }
+    ReadWhole { value: 0, problem }
 }
 
 // A whole number up to `limit`.

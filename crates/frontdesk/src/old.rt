@@ -1,6 +1,5 @@
 // A queue that the old counter exported, doubles and all. Staff run the bare searches on it, and the hall is not touched.
 use crate::desk::Desk;
-use crate::entries::Entered;
 use crate::fields::Fields;
 use crate::guests::Roster;
 use crate::numbers::Problem;
@@ -10,12 +9,12 @@ use crate::words::Heard;
 use crate::{
     complaints, counts, entries, fields, listing, print, refusals, rounds, tables, values, words,
 };
-use base::{Checked, Refusal};
+use base::Refusal;
 use beam::BeamSearch;
 use check::same;
 use greedy::GreedySearch;
 use queue::{Enqueued, Queue};
-use seating::{Formed, TeamComposition};
+use seating::TeamComposition;
 
 // `old entry ..` and so on. The word behind `old` is heard as the command, so that complaints name it.
 pub fn serve(desk: Desk, text: &[u8], line: Heard) -> Desk {
@@ -69,7 +68,7 @@ fn entry(desk: Desk, text: &[u8], heard: Heard) -> Desk {
         entries::ALLOWED,
     );
     let read = entries::entry_of(desk.roster, given, text, heard);
-    let Entered::As(entry) = read else {
+    let Some(entry) = read else {
         return desk;
     };
     let old = desk.old;
@@ -81,8 +80,8 @@ fn added(desk: Desk, enqueued: Enqueued) -> Desk {
     let old = enqueued.queue;
     let answer = enqueued.answer;
     match answer {
-        Checked::Passed => print::text(b"entry added\n"),
-        Checked::Refused(refusal) => refusals::refused(refusal),
+        Ok(()) => print::text(b"entry added\n"),
+        Err(refusal) => refusals::refused(refusal),
     }
     desk.with_old(old)
 }
@@ -113,7 +112,7 @@ struct Sought {
 impl Sought {
     fn of(sizes: TeamComposition, given: Fields) -> Sought {
         Sought {
-            sizes: sizes,
+            sizes,
             asked: Asked::of(given),
         }
     }
@@ -151,12 +150,12 @@ fn show(desk: Desk, search: Search, sought: Sought) {
     let formed = found(roster, old, search, sizes, asked, &mut players);
     let before = Before {
         waiting: old,
-        roster: roster,
+        roster,
         clock: asked.clock,
     };
     match formed {
-        Formed::Refused(refusal) => refusals::refused(refusal),
-        Formed::Count(count) => {
+        Err(refusal) => refusals::refused(refusal),
+        Ok(count) => {
             tables::print(before, sizes, count, &players);
         }
     }
@@ -169,7 +168,7 @@ fn found(
     sizes: TeamComposition,
     asked: Asked,
     players: &mut [u64],
-) -> Formed {
+) -> Result<usize, Refusal> {
     match search {
         Search::Greedy => greedy(roster, old, sizes, asked.clock, players),
         Search::Beam => beam(roster, old, sizes, asked, players),
@@ -183,7 +182,7 @@ fn greedy(
     sizes: TeamComposition,
     clock: u64,
     players: &mut [u64],
-) -> Formed {
+) -> Result<usize, Refusal> {
     let ids = roster.ids;
     let ratings = roster.ratings;
     let n = counts::wholes(roster.rows, &ids);
@@ -201,14 +200,14 @@ fn greedy(
 }
 
 // The greedy search takes no clock, but the waits that are shown do: one above 2^53 is refused after all else, as in a round.
-fn timely(formed: Formed, clock: u64) -> Formed {
-    let Formed::Count(count) = formed else {
+fn timely(formed: Result<usize, Refusal>, clock: u64) -> Result<usize, Refusal> {
+    let Ok(count) = formed else {
         return formed;
     };
     if queue::time::is_over(clock) {
-        return Formed::Refused(Refusal::Clock);
+        return Err(Refusal::Clock);
     }
-    Formed::Count(count)
+    Ok(count)
 }
 
 // The beam search with the roster's columns lent.
@@ -218,7 +217,7 @@ fn beam(
     sizes: TeamComposition,
     asked: Asked,
     players: &mut [u64],
-) -> Formed {
+) -> Result<usize, Refusal> {
     let ids = roster.ids;
     let ratings = roster.ratings;
     let deviations = roster.deviations;

@@ -115,8 +115,8 @@ fn fixed(x: f64, places: usize) -> Printed {
     if digits < scale {
         return Printed {
             minus: false,
-            whole: whole,
-            digits: digits,
+            whole,
+            digits,
         };
     }
     Printed {

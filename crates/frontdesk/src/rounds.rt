@@ -256,8 +256,8 @@ fn seated(desk: Desk, rounded: Rounded, game: u8, clock: u64, players: &[u64]) -
     let tally = desk.tally;
     let before = Before {
         waiting: waiting::eligible(bookings, hall.waiting, game),
-        roster: roster,
-        clock: clock,
+        roster,
+        clock,
     };
     let guests = tables::print(
         before,

@@ -312,15 +312,8 @@ fn list_role(requirement: RoleRequirement) {
 fn list_roles(roles: RoleRequirements) {
     let requirements = roles.items;
     let n = roles.len;
-    let mut i: usize = 0;
-    while i < 8 {
-        if i < n {
-            let requirement = requirements[i];
-            list_role(requirement);
-            i += 1;
-        } else {
-            i += 1;
-        }
+    for i in 0..n.min(8) {
+        list_role(requirements[i]);
     }
 }
 
@@ -345,14 +338,7 @@ fn list_pair(pair: RegionPair) {
 fn list_pairs(regions: RegionConstraint) {
     let pairs = regions.pairs;
     let n = regions.count;
-    let mut i: usize = 0;
-    while i < 16 {
-        if i < n {
-            let pair = pairs[i];
-            list_pair(pair);
-            i += 1;
-        } else {
-            i += 1;
-        }
+    for i in 0..n.min(16) {
+        list_pair(pairs[i]);
     }
 }

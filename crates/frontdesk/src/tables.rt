@@ -2,8 +2,7 @@
 use crate::guests::Roster;
 use crate::{counts, print};
 use matchmaker::{ProposedMatch, Team};
-use queue::{Queue, Waited};
-use roster::Observed;
+use queue::Queue;
 use seating::TeamComposition;
 
 // What the blocks are made from: the queue as it was before the round, the roster and the clock.
@@ -23,10 +22,10 @@ fn guest_at(players: &[u64], at: usize) -> u64 {
 }
 
 // The roster's rating, and - where the guest has no row.
-fn rating(observed: Observed, width: usize) {
+fn rating(observed: Option<f64>, width: usize) {
     match observed {
-        Observed::Of(x) => print::real(x, 2, width),
-        Observed::Nothing => print::right(b"-", width),
+        Some(x) => print::real(x, 2, width),
+        None => print::right(b"-", width),
     }
 }
 
@@ -34,8 +33,8 @@ fn rating(observed: Observed, width: usize) {
 fn waited(before: Before, guest: u64) {
     let waiting = before.waiting;
     match waiting.first_wait(guest, before.clock) {
-        Waited::Of(nanos) => print::wait(nanos, 12),
-        Waited::Nobody => print::right(b"-", 12),
+        Some(nanos) => print::wait(nanos, 12),
+        None => print::right(b"-", 12),
     }
 }
 
@@ -54,11 +53,9 @@ fn team_at(players: &[u64], at: usize, size: usize) -> Team {
         players: [0; 8],
         len: 0,
     };
-    let mut i: usize = 0;
-    while i < size {
+    for i in 0..size {
         let player = guest_at(players, std::num::wrapping_add_usize(at, i));
         team = seating::joined(team, player);
-        i += 1;
     }
     team
 }
@@ -67,10 +64,8 @@ fn team_at(players: &[u64], at: usize, size: usize) -> Team {
 fn guests(before: Before, team: Team) {
     let n = team.held();
     let players = team.players;
-    let mut i: usize = 0;
-    while i < n {
+    for i in 0..n {
         guest(before, guest_at(&players, i));
-        i += 1;
     }
 }
 
@@ -122,14 +117,12 @@ fn each(before: Before, sizes: TeamComposition, count: usize, players: &[u64]) -
     let a = sizes.a;
     let b = sizes.b;
     let mut at: usize = 0;
-    let mut i: usize = 0;
-    while i < count {
+    for i in 0..count {
         let middle = std::num::wrapping_add_usize(at, a);
         let first = team_at(players, at, a);
         let second = team_at(players, middle, b);
         table(before, std::num::wrapping_add_usize(i, 1), first, second);
         at = std::num::wrapping_add_usize(middle, b);
-        i += 1;
     }
     at as u64
 }

@@ -52,10 +52,8 @@ impl Tally {
     pub fn seated_in_all(self) -> u64 {
         let seated = self.seated;
         let mut sum: u64 = 0;
-        let mut i: usize = 0;
-        while i < 8 {
+        for i in 0..8 {
             sum = std::num::wrapping_add_u64(sum, seated[i]);
-            i += 1;
         }
         sum
     }

@@ -45,7 +45,7 @@ fn of_whole(read: numbers::ReadWhole) -> Value {
     Value {
         whole: read.value,
         real: 0.0,
-        problem: problem,
+        problem,
     }
 }
 
@@ -54,7 +54,7 @@ fn of_decimal(read: numbers::ReadDecimal) -> Value {
     Value {
         whole: 0,
         real: read.value,
-        problem: problem,
+        problem,
     }
 }
 
@@ -95,7 +95,7 @@ fn bad_sizes(problem: Problem) -> ReadSizes {
     ReadSizes {
         a: 0,
         b: 0,
-        problem: problem,
+        problem,
     }
 }
 

@@ -12,12 +12,10 @@ pub struct Word {
 fn past_blanks(text: &[u8], from: usize) -> usize
     ensures { result ≤ length text.now }
 {
-    let mut at = from;
-    while at < text.len() {
+    for at in from..text.len() {
         if text[at] != b' ' {
             return at;
         }
-        at += 1;
     }
     text.len()
 }

@@ -3,7 +3,7 @@ use Prim.Native.Nat.{ℕ, zero, suc, ◌≤◌}
 use mathlib.Core.Path.{◌≡◌, refl, sym, ap, ◌∙◌, subst}
 use mathlib.Core.Bool.{true, false, not}
 use mathlib.Core.List.{List, [], ◌∷◌, ◌++◌, foldl, append_assoc}
-use mathlib.Core.Option.{Option, none, some}
+use Rattle.std.specs.Prelude.{Option, None, Some}
 use native.Mathlib.Omega.{arith}
 use lib.Ieee.{Float, inf, lt, eq}
 use Rattle.base.specs.Lists.{keep, member, Within, All}
@@ -30,26 +30,26 @@ module _ (reference : Float) where
 
   -- x does not go before the nearest so far
   abbrev Behind : Option QueueEntry → QueueEntry → Type 0
-  Behind none x = lt (far x) (inf false) ≡ false
-  Behind (some near) x = goes_before (far x) x.joined (far near) near.joined ≡ false
+  Behind None x = lt (far x) (inf false) ≡ false
+  Behind (Some near) x = goes_before (far x) x.joined (far near) near.joined ≡ false
 
   -- so the nearest stays
   behind_stays : (o : Option QueueEntry) (x : QueueEntry) → Behind o x → closer reference o x ≡ o
   unfolding closer
-  behind_stays none x h = rw h
-  behind_stays (some near) x h = rw h
+  behind_stays None x h = rw h
+  behind_stays (Some near) x h = rw h
 
   -- no entry goes before the one that is picked
   picked_behind : (es : List QueueEntry) (o : Option QueueEntry) → Picked reference es o → All (Behind o) es
-  picked_behind es none p = p
-  picked_behind es (some near) p =
-      all_so (λ x. (lt (far x) (far near) ≡ false) × (eq (far x) (far near) ≡ true → near.joined ≤ x.joined)) (Behind (some near))
+  picked_behind es None p = p
+  picked_behind es (Some near) p =
+      all_so (λ x. (lt (far x) (far near) ≡ false) × (eq (far x) (far near) ≡ true → near.joined ≤ x.joined)) (Behind (Some near))
       (λ x k. after_both (far x) x.joined (far near) near.joined k.0 k.1) es (all_both _ _ es p.smallest p.longest)
 
   -- where an entry doesn't, its copy doesn't: it is as far, and joined no earlier
   copy_behind : (o : Option QueueEntry) (e c : QueueEntry) → Copy e c → Behind o e → Behind o c
-  copy_behind none e c copy h = rw copy.rating h
-  copy_behind (some near) e c copy h =
+  copy_behind None e c copy h = rw copy.rating h
+  copy_behind (Some near) e c copy h =
       rw copy.rating
       (after_both (far e) c.joined (far near) near.joined (after_far (far e) e.joined (far near) near.joined h)
       (λ t. omega (arith, copy.joined, after_tied (far e) e.joined (far near) near.joined h t)))
@@ -79,8 +79,8 @@ module _ (reference : Float) (used : List ℕ) (before between behind : List Que
       rw (
         keep_append (λ x. not (is_of_any used x)) front (c ∷ behind),
         keep_append (λ x. not (is_of_any used x)) front behind,
-        fold_append (closer reference) none (without_all used front) (without_all used (c ∷ behind)),
-        fold_append (closer reference) none (without_all used front) (without_all used behind),
+        fold_append (closer reference) None (without_all used front) (without_all used (c ∷ behind)),
+        fold_append (closer reference) None (without_all used front) (without_all used behind),
       )
       (cases (member c.player used) (λ t. rw t) (λ f. rw (f, copy_left f)))
 
@@ -93,8 +93,8 @@ filled_uses s r queue zero f = within_self f.used
 filled_uses s r queue (suc left) f = go (nearest f.reference f.used queue) (filled_uses s r queue left)
   where
     go : (o : Option QueueEntry) → ((g : Filling) → Within g.used (filled s r queue left g).used) → Within f.used (if_some o (λ e. filled s r queue left (picked s r f e)) f).used
-    go none rest = within_self f.used
-    go (some e) rest = within_trans f.used (e.player ∷ f.used) (filled s r queue left (picked s r f e)).used (within_tail f.used e.player f.used (within_self f.used)) (rest (picked s r f e))
+    go None rest = within_self f.used
+    go (Some e) rest = within_trans f.used (e.player ∷ f.used) (filled s r queue left (picked s r f e)).used (within_tail f.used e.player f.used (within_self f.used)) (rest (picked s r f e))
 
 module _ (s : TeamComposition) (r : Roster) (queue : List QueueEntry) where
   -- behind an anchor everyone used before is used, and the anchor too
@@ -134,8 +134,8 @@ module _ (s : TeamComposition) (r : Roster) (queue other : List QueueEntry) (sam
       rw (same f.reference f.used) (go (nearest f.reference f.used queue) (same_filled left))
     where
       go : (o : Option QueueEntry) → ((g : Filling) → filled s r other left g ≡ filled s r queue left g) → if_some o (λ e. filled s r other left (picked s r f e)) f ≡ if_some o (λ e. filled s r queue left (picked s r f e)) f
-      go none rest = refl
-      go (some e) rest = rest (picked s r f e)
+      go None rest = refl
+      go (Some e) rest = rest (picked s r f e)
 
   -- so is what comes of an anchor
   same_anchored : (o : Search) (e : QueueEntry) → anchored s r other o e ≡ anchored s r queue o e

@@ -91,16 +91,6 @@ free_all [] k = refl
 free_all (r ∷ rs) zero = refl
 free_all (r ∷ rs) (suc k) = ap (λ (l : List Float). r ∷ l) (free_all rs k)
 
--- it is as long as the ratings
-length_free : (ratings : List Float) (used : List Bool) → length (free_of ratings used) ≡ length ratings
-unfolding free_of
-length_free [] us = refl
-length_free (r ∷ rs) [] = refl
-length_free (r ∷ rs) (u ∷ us) = ap suc (length_free rs us)
-
-pub whole_free : (ratings : List Float) (used : List Bool) {free : List Float} → free ≡ free_of ratings used → length ratings ≡ 64 → length free ≡ 64
-whole_free ratings used e h = ap length e ∙ length_free ratings used ∙ h
-
 -- a column stays as long as it was
 length_struck : {A : Type 0} (a : A) (p : ℕ) (players : List ℕ) (us : List A) → length (struck a p players us) ≡ length us
 unfolding struck

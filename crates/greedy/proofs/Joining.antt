@@ -4,7 +4,7 @@ use Prim.Native.Nat.{ℕ, ◌≤◌, ◌<◌}
 use mathlib.Core.Path.{◌≡◌, refl, sym, ap, ◌∙◌}
 use mathlib.Core.Bool.{Bool, true, false, not, cond}
 use mathlib.Core.List.{List, [], ◌∷◌, foldl}
-use mathlib.Core.Option.{Option, none, some}
+use Rattle.std.specs.Prelude.{Option, None, Some}
 use native.Mathlib.Omega.{arith}
 use borrow.Author.Tests.{ltb-true, ltb-false, le-ltb}
 use lib.Dec.{ltb}
@@ -30,34 +30,34 @@ module _ (reference : Float) where
 
   -- does x go before the nearest so far? With infinity and 0 where there is none nothing ties
   abbrev beats : QueueEntry → Option QueueEntry → Bool
-  beats x none = goes_before (far x) x.joined (inf false) 0
-  beats x (some near) = goes_before (far x) x.joined (far near) near.joined
+  beats x None = goes_before (far x) x.joined (inf false) 0
+  beats x (Some near) = goes_before (far x) x.joined (far near) near.joined
 
   -- one that does takes its place
-  closer_takes : (o : Option QueueEntry) (x : QueueEntry) → beats x o ≡ true → closer reference o x ≡ some x
+  closer_takes : (o : Option QueueEntry) (x : QueueEntry) → beats x o ≡ true → closer reference o x ≡ Some x
   unfolding closer
-  closer_takes none x h = rw (sym (before_late (far x) x.joined (inf false) 0 (omega arith)) ∙ h)
-  closer_takes (some near) x h = rw h
+  closer_takes None x h = rw (sym (before_late (far x) x.joined (inf false) 0 (omega arith)) ∙ h)
+  closer_takes (Some near) x h = rw h
 
   -- one that doesn't leaves it there
   closer_stays : (o : Option QueueEntry) (x : QueueEntry) → beats x o ≡ false → closer reference o x ≡ o
   unfolding closer
-  closer_stays none x h = rw (sym (before_late (far x) x.joined (inf false) 0 (omega arith)) ∙ h)
-  closer_stays (some near) x h = rw h
+  closer_stays None x h = rw (sym (before_late (far x) x.joined (inf false) 0 (omega arith)) ∙ h)
+  closer_stays (Some near) x h = rw h
 
   -- who beats one that beats the nearest beats the nearest
-  beats_on : (o : Option QueueEntry) (x y : QueueEntry) → beats y (some x) ≡ true → beats x o ≡ true → beats y o ≡ true
-  beats_on none x y h k = before_trans (far y) (far x) (inf false) y.joined x.joined 0 h k
-  beats_on (some near) x y h k = before_trans (far y) (far x) (far near) y.joined x.joined near.joined h k
+  beats_on : (o : Option QueueEntry) (x y : QueueEntry) → beats y (Some x) ≡ true → beats x o ≡ true → beats y o ≡ true
+  beats_on None x y h k = before_trans (far y) (far x) (inf false) y.joined x.joined 0 h k
+  beats_on (Some near) x y h k = before_trans (far y) (far x) (far near) y.joined x.joined near.joined h k
 
   -- who beats anybody is at a distance that is a number
   beats_number : (o : Option QueueEntry) (x : QueueEntry) → beats x o ≡ true → far x ≡ nan → ⊥
-  beats_number none x h = before_number (far x) x.joined (inf false) 0 h
-  beats_number (some near) x h = before_number (far x) x.joined (far near) near.joined h
+  beats_number None x h = before_number (far x) x.joined (inf false) 0 h
+  beats_number (Some near) x h = before_number (far x) x.joined (far near) near.joined h
 
   -- where x beats the nearest and y doesn't, y does not beat x
-  beaten : (o : Option QueueEntry) (x y : QueueEntry) → beats x o ≡ true → beats y o ≡ false → beats y (some x) ≡ false
-  beaten o x y h k = cases (beats y (some x)) (λ t. never (let e = beats_on o x y t h in cc)) (λ f. f)
+  beaten : (o : Option QueueEntry) (x y : QueueEntry) → beats x o ≡ true → beats y o ≡ false → beats y (Some x) ≡ false
+  beaten o x y h k = cases (beats y (Some x)) (λ t. never (let e = beats_on o x y t h in cc)) (λ f. f)
 
   -- so they may come in either order
   closer_swap : (o : Option QueueEntry) (x y : QueueEntry) → (x.joined ≡ y.joined → ⊥) → closer reference (closer reference o x) y ≡ closer reference (closer reference o y) x
@@ -68,13 +68,13 @@ module _ (reference : Float) where
       (λ u.
       let e = before_one (far x) (far y) x.joined y.joined (beats_number o x t) (beats_number o y u) d in
       rw (closer_takes o x t, closer_takes o y u)
-      (cases (beats x (some y))
-      (λ g. rw (closer_takes (some y) x g) (closer_stays (some x) y (rw g at e)))
-      (λ g. rw (closer_stays (some y) x g) (closer_takes (some x) y (rw g at e)))))
-      (λ g. rw (closer_takes o x t, closer_stays o y g, closer_takes o x t) (closer_stays (some x) y (beaten o x y t g))))
+      (cases (beats x (Some y))
+      (λ g. rw (closer_takes (Some y) x g) (closer_stays (Some x) y (rw g at e)))
+      (λ g. rw (closer_stays (Some y) x g) (closer_takes (Some x) y (rw g at e)))))
+      (λ g. rw (closer_takes o x t, closer_stays o y g, closer_takes o x t) (closer_stays (Some x) y (beaten o x y t g))))
       (λ f.
       cases (beats y o)
-      (λ u. rw (closer_stays o x f, closer_takes o y u) (sym (closer_stays (some y) x (beaten o y x u f))))
+      (λ u. rw (closer_stays o x f, closer_takes o y u) (sym (closer_stays (Some y) x (beaten o y x u f))))
       (λ g. rw (closer_stays o x f, closer_stays o y g) (sym (closer_stays o x f))))
 
 -- ---- a queue is sorted
@@ -131,7 +131,7 @@ module _ (reference : Float) (p : QueueEntry → Bool) where
 nearest_joining : (reference : Float) (used : List ℕ) (queue : List QueueEntry) → nearest reference used queue ≡ nearest reference used (by_joining queue)
 nearest_joining reference used queue =
     let p : QueueEntry → Bool = λ x. not (is_of_any used x) in
-    looked_keep reference p queue none ∙ sym (looked_sorted reference p queue [] none tt) ∙ sym (looked_keep reference p (by_joining queue) none)
+    looked_keep reference p queue None ∙ sym (looked_sorted reference p queue [] None tt) ∙ sym (looked_keep reference p (by_joining queue) None)
 
 -- and that order never falls
 sorted_rising : (last : ℕ) (es : List QueueEntry) → All (λ e. last ≤ e.joined) es → Sorted earlier es → rising_from last (joined_by es) ≡ true

@@ -1,5 +1,5 @@
 -- What each turn of the search's loops does, and one law for each answer, over plain lists and floats.
-use Prim.Native.Nat.{ℕ, zero, suc, ◌+◌, ◌-◌, ◌≤◌, ◌<◌}
+use Prim.Native.Nat.{ℕ, zero, suc, ◌+◌, ◌≤◌, ◌<◌}
 use mathlib.Core.Path.{◌≡◌, refl, sym, ◌∙◌}
 use mathlib.Core.Bool.{Bool, true, false, cond}
 use mathlib.Core.List.{List, [], ◌∷◌, ◌++◌}
@@ -96,12 +96,9 @@ module _ (s : TeamComposition) (c : Columns) (n : ℕ) where
     fills_none (suc left) h k = rw (← nearest, le-leb n next k)
 
     -- a seat is left, and goes to the pick
-    pub fills_on : (left : ℕ) → 0 < left → next < n → {g : Fill} → g ≡ picking s c.players c.rostered f next → filling s c n (left - 1) g ≡ filling s c n left f
+    pub fills_on : (left rest : ℕ) → left ≡ suc rest → next < n → {g : Fill} → g ≡ picking s c.players c.rostered f next → filling s c n rest g ≡ filling s c n left f
     unfolding filling
-    fills_on zero h k e = absurd (omega arith)
-    fills_on (suc left) h k e =
-        let z : suc left - 1 ≡ left = omega arith in
-        rw (← nearest, lt-leb n next k, z, e)
+    fills_on left rest h k e = rw (h, ← nearest, lt-leb n next k, e)
 
 -- ---- all anchors
 

@@ -1,10 +1,9 @@
 -- The sheets while the search goes on: what stands on them are the matches so far.
 use Prim.Native.Nat.{ℕ, ◌+◌, ◌-◌, ◌≤◌, ◌<◌, min}
 use mathlib.Core.Path.{◌≡◌, refl, sym, ap, ◌∙◌, subst}
-use mathlib.Core.Bool.{Bool, true, false, not, cond}
+use mathlib.Core.Bool.{Bool, true, false, cond}
 use mathlib.Core.List.{List, [], ◌∷◌, ◌++◌, map, map-append}
 use native.Mathlib.Omega.{arith}
-use borrow.Author.Tests.{not-true, not-false}
 use lib.Ieee.{Float}
 use lib.ListN.{length, take, drop, get_or, set, replicate, length-append, length-map}
 use Rattle.base.specs.Lists.{times}
@@ -33,16 +32,16 @@ overlaid_put {A = A} y (x ∷ xs) (z ∷ sheet) h = ap (λ (l : List A). x ∷ l
 
 module _ (s : TeamComposition) (r : Roster) (m : MatchState) {t : Bool} (whole : t ≡ complete s m) where
   -- a match that is not complete leaves the sheets as they are
-  pub form_none : (p : Paper) → not t ≡ true → p ≡ forming s r m p
-  form_none p e = rw (sym whole ∙ not-true t e)
+  pub form_none : (p : Paper) → t ≡ false → p ≡ forming s r m p
+  form_none p e = rw (sym whole ∙ e)
 
   -- a complete one goes into the rest of the sheet, and the next behind it
-  pub form_one : (at count : ℕ) (ps : List ℕ) (qs : List Float) {far many : ℕ} {ps' : List ℕ} {q : Float} → not t ≡ false → at ≤ length ps → ps' ≡ take at ps ++ overlaid (seated m) (drop at ps) → q ≡ quality_of r m.a.players m.b.players → many ≡ length (seated m) → far ≡ at + min many (length ps' - at) →
+  pub form_one : (at count : ℕ) (ps : List ℕ) (qs : List Float) {far many : ℕ} {ps' : List ℕ} {q : Float} → t ≡ true → at ≤ length ps → ps' ≡ take at ps ++ overlaid (seated m) (drop at ps) → q ≡ quality_of r m.a.players m.b.players → many ≡ length (seated m) → far ≡ at + min many (length ps' - at) →
       ◌≡◌ {A = Paper} (record { seats = far; count = count + 1; players = ps'; qualities = set qs count q }) (forming s r m (record { seats = at; count = count; players = ps; qualities = qs }))
   form_one at count ps qs {far} {many} {ps'} e h row rated v k =
       let l : length ps' ≡ length ps = length_lent (seated m) ps at h row in
       let a : far ≡ at + min (length (seated m)) (length ps - at) = k ∙ rw (l, v) in
-      rw (sym whole ∙ not-false t e) (λ j. record { seats = a j; count = count + 1; players = row j; qualities = set qs count (rated j) })
+      rw (sym whole ∙ e) (λ j. record { seats = a j; count = count + 1; players = row j; qualities = set qs count (rated j) })
 
 -- ---- the matches so far
 

@@ -3,7 +3,7 @@ use Prim.Native.Nat.{ℕ, ◌≤◌, ◌<◌}
 use mathlib.Core.Path.{◌≡◌, refl, sym, ap, ◌∙◌, subst}
 use mathlib.Core.Bool.{true, false}
 use mathlib.Core.List.{List, [], ◌∷◌, ◌++◌, foldl, append_assoc, append-nil, head-eq_of_cons-eq, tail-eq_of_cons-eq}
-use mathlib.Core.Option.{Option, none, some}
+use Rattle.std.specs.Prelude.{Option, None, Some}
 use native.Mathlib.Omega.{arith}
 use lib.Ieee.{Float, inf, lt, eq}
 use lib.Seq.{append_snoc}
@@ -63,9 +63,9 @@ module _ (reference : Float) where
   -- one entry more is seen
   kept_on : (seen : List QueueEntry) (o : Option QueueEntry) (x : QueueEntry) → Picked reference seen o → Picked reference (seen ++ (x ∷ [])) (closer reference o x)
   unfolding closer
-  kept_on seen none x k =
+  kept_on seen None x k =
       cases (lt (far x) (inf false)) (λ t. rw t (nearer_kept (inf false) seen x k t t)) (λ f. rw f (all_append (λ y. lt (far y) (inf false) ≡ false) seen (x ∷ []) k (f, tt)))
-  kept_on seen (some e) x k =
+  kept_on seen (Some e) x k =
       cases (goes_before (far x) x.joined (far e) e.joined)
       (λ t.
       rw t
@@ -93,9 +93,9 @@ module _ (reference : Float) where
 
 -- so of the unused entries the foremost is picked
 pub nearest_picked : (reference : Float) (used : List ℕ) (queue : List QueueEntry) → Picked reference (without_all used queue) (nearest reference used queue)
-nearest_picked reference used queue = kept_all reference (without_all used queue) [] none tt
+nearest_picked reference used queue = kept_all reference (without_all used queue) [] None tt
 
-pub nearest_is : (reference : Float) (used : List ℕ) (queue : List QueueEntry) (e : QueueEntry) → nearest reference used queue ≡ some e → Foremost reference (without_all used queue) e
+pub nearest_is : (reference : Float) (used : List ℕ) (queue : List QueueEntry) (e : QueueEntry) → nearest reference used queue ≡ Some e → Foremost reference (without_all used queue) e
 nearest_is reference used queue e h = subst (Picked reference (without_all used queue)) h (nearest_picked reference used queue)
 
 -- ---- no other entry is foremost

@@ -3,7 +3,7 @@ use Prim.Native.Nat.{ℕ, zero, suc, ◌≤◌, ◌<◌}
 use mathlib.Core.Path.{◌≡◌, refl, sym, ap, ◌∙◌, subst}
 use mathlib.Core.Bool.{Bool, true, false, not, cond}
 use mathlib.Core.List.{List, [], ◌∷◌, ◌++◌, map, foldl, foldl-map, head-eq_of_cons-eq, tail-eq_of_cons-eq}
-use mathlib.Core.Option.{Option, none, some}
+use Rattle.std.specs.Prelude.{Option, None, Some}
 use native.Mathlib.Omega.{arith}
 use native.Mathlib.Nat.{le_of_suc-le-suc, not-suc-le-zero}
 use borrow.Author.Tests.{le-leb, lt-leb}
@@ -71,23 +71,23 @@ marks_more p used (q ∷ queue) (suc n) (x ∷ players) (u ∷ us) e h =
 
 -- the distance of the nearest so far; infinity where there is none
 abbrev reach : Float → Option QueueEntry → Float
-reach reference none = inf false
-reach reference (some e) = distance reference e.rating
+reach reference None = inf false
+reach reference (Some e) = distance reference e.rating
 
 -- one more entry is held against it
-closer_by : (reference : Float) (o : Option QueueEntry) (e : QueueEntry) → closer_by_place reference o e ≡ cond (lt (distance reference e.rating) (reach reference o)) (some e) o
-closer_by reference none e = refl
-closer_by reference (some near) e = refl
+closer_by : (reference : Float) (o : Option QueueEntry) (e : QueueEntry) → closer_by_place reference o e ≡ cond (lt (distance reference e.rating) (reach reference o)) (Some e) o
+closer_by reference None e = refl
+closer_by reference (Some near) e = refl
 
 -- the place and the distance that are kept, and the entry that is nearest: there is none, and the place is n; or it is there
 abbrev Kept : List QueueEntry → ℕ → Float → ℕ → Float → Option QueueEntry → Type 0
-Kept queue n reference place near none = (place ≡ n) × (near ≡ inf false)
-Kept queue n reference place near (some e) = (place < n) × (e ≡ get_or queue place no_entry) × (near ≡ distance reference e.rating)
+Kept queue n reference place near None = (place ≡ n) × (near ≡ inf false)
+Kept queue n reference place near (Some e) = (place < n) × (e ≡ get_or queue place no_entry) × (near ≡ distance reference e.rating)
 
 -- the distance kept is that of the nearest so far
 kept_reach : (queue : List QueueEntry) (n : ℕ) (reference : Float) (place : ℕ) (near : Float) (o : Option QueueEntry) → Kept queue n reference place near o → near ≡ reach reference o
-kept_reach queue n reference place near none k = k.1
-kept_reach queue n reference place near (some e) k = k.2
+kept_reach queue n reference place near None k = k.1
+kept_reach queue n reference place near (Some e) k = k.2
 
 module _ (queue : List QueueEntry) (n : ℕ) (reference : Float) (ratings : List Float) (us : List Bool) (used : List ℕ) (all : n ≡ length queue) (rated : take n ratings ≡ map (λ e. e.rating) queue) (marks : take n us ≡ marks queue used) where
   -- the entry at one more place
@@ -109,7 +109,7 @@ module _ (queue : List QueueEntry) (n : ℕ) (reference : Float) (ratings : List
   -- the entries at the first i places
   kept_first : (i : ℕ) → i ≤ n →
       let b = times (nearer reference ratings us) (record { place = n; distance = inf false }) i in
-      Kept queue n reference b.place b.distance (foldl (closer_by_place reference) none (without_all used (take i queue)))
+      Kept queue n reference b.place b.distance (foldl (closer_by_place reference) None (without_all used (take i queue)))
   unfolding times keep
   kept_first zero h = (refl, refl)
   kept_first (suc i) h =
@@ -119,7 +119,7 @@ module _ (queue : List QueueEntry) (n : ℕ) (reference : Float) (ratings : List
       rw (
         take-suc queue i no_entry l,
         keep_append (λ e. not (is_of_any used e)) (take i queue) (get_or queue i no_entry ∷ []),
-        fold_append (closer_by_place reference) none (without_all used (take i queue)) (without_all used (get_or queue i no_entry ∷ [])),
+        fold_append (closer_by_place reference) None (without_all used (take i queue)) (without_all used (get_or queue i no_entry ∷ [])),
       )
       (kept_on i b.place b.distance _ h (kept_first i k))
 
@@ -176,8 +176,8 @@ module _ (s : TeamComposition) (r : Roster) (queue row : List QueueEntry) (alike
   fill_on : (left : ℕ) → ((f : Fill) (g : Filling) → Same f g → Same (filling s (columns players ratings rostered) n left f) (filled s r queue left g)) →
       (f : Fill) (g : Filling) → Same f g → (place : ℕ) (near : Float) (o : Option QueueEntry) → Kept row n g.reference place near o →
       Same (cond (leb n place) f (filling s (columns players ratings rostered) n left (picking s players rostered f place))) (if_some o (λ e. filled s r queue left (picked s r g e)) g)
-  fill_on left rest f g h place near none k = rw (le-leb n place (omega (arith, k.0))) h
-  fill_on left rest f g h place near (some e) k =
+  fill_on left rest f g h place near None k = rw (le-leb n place (omega (arith, k.0))) h
+  fill_on left rest f g h place near (Some e) k =
       let l = pick_same f.used g place k.0 h.marks in
       let m = subst (λ (x : Fill). Same (picking s players rostered x place) (picked s r g (get_or row place no_entry))) (sym h.shown) l in
       rw (lt-leb n place k.0, k.1) (rest (picking s players rostered f place) (picked s r g (get_or row place no_entry)) m)

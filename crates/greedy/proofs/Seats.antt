@@ -3,7 +3,7 @@ use Prim.Native.Nat.{ℕ, zero, suc, ◌+◌, ◌≤◌}
 use mathlib.Core.Path.{◌≡◌, refl, subst}
 use mathlib.Core.Bool.{true, false, not}
 use mathlib.Core.List.{List, [], ◌∷◌, map, foldl}
-use mathlib.Core.Option.{Option, none, some}
+use Rattle.std.specs.Prelude.{Option, None, Some}
 use native.Mathlib.Omega.{arith}
 use borrow.Author.Tests.{not-true}
 use lib.Ieee.{Float}
@@ -25,7 +25,7 @@ use Rattle.seating.proofs.Seated.{Fresh, Seated, Formed, within_grown, fresh_alo
 -- ---- the pick is an unused entry of the queue
 
 -- the player picked waits, and is not used
-pub pick_free : (reference : Float) (used : List ℕ) (queue : List QueueEntry) (e : QueueEntry) → nearest reference used queue ≡ some e → (member e.player (waiting_of queue) ≡ true) × (member e.player used ≡ false)
+pub pick_free : (reference : Float) (used : List ℕ) (queue : List QueueEntry) (e : QueueEntry) → nearest reference used queue ≡ Some e → (member e.player (waiting_of queue) ≡ true) × (member e.player used ≡ false)
 pick_free reference used queue e h =
     let n = nearest_is reference used queue e h in
     let a = all_keep (λ x. member x.player (waiting_of queue) ≡ true) (λ x. not (member x.player used)) queue (all_waiting queue (waiting_of queue) (within_self (waiting_of queue))) in
@@ -65,8 +65,8 @@ module _ (s : TeamComposition) (r : Roster) (queue : List QueueEntry) where
 
   -- one more pick, if there is one, and what comes behind it
   filled_on : (before : List ℕ) (left : ℕ) → ((f : Filling) → Fills before f → Fills before (filled s r queue left f)) → (f : Filling) → Fills before f → (o : Option QueueEntry) → nearest f.reference f.used queue ≡ o → Fills before (if_some o (λ e. filled s r queue left (picked s r f e)) f)
-  filled_on before left rest f g none h = g
-  filled_on before left rest f g (some e) h =
+  filled_on before left rest f g None h = g
+  filled_on before left rest f g (Some e) h =
       let k = pick_free f.reference f.used queue e h in
       rest (picked s r f e) (picked_fills before f e g k.0 k.1)
 

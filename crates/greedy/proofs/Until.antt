@@ -4,7 +4,7 @@ use mathlib.Core.Path.{◌≡◌, refl, sym, ap, ◌∙◌}
 use mathlib.Core.Bool.{Bool, true, false, cond}
 use mathlib.Core.Logic.{◌⊎◌, inl, inr}
 use mathlib.Core.List.{List, ◌∷◌}
-use mathlib.Core.Option.{Option, none, some}
+use Rattle.std.specs.Prelude.{Option, None, Some}
 use native.Mathlib.Omega.{arith}
 use Rattle.queue.specs.declared.QueueEntry.{QueueEntry}
 use Rattle.roster.specs.Roster.{Roster}
@@ -41,8 +41,8 @@ module _ (s : TeamComposition) (r : Roster) (queue : List QueueEntry) where
       (f : Filling) → left s f.teams ≡ suc k → Fits s f.teams → short s f.teams ≡ true → (o : Option QueueEntry) →
       if_some o (λ e. while_short s r queue n (after r f e (takes_a s f.teams) (pushed s f.teams e.player))) f
       ≡ if_some o (λ e. filled s r queue k (picked s r f e)) f
-  while_on k n rest f e l h none = refl
-  while_on k n rest f e l h (some x) =
+  while_on k n rest f e l h None = refl
+  while_on k n rest f e l h (Some x) =
       rest (after r f x (takes_a s f.teams) (pushed s f.teams x.player)) (pushed_left s f.teams x.player l h k e) (pushed_fits s f.teams x.player l h)
       ∙ ap (filled s r queue k) (sym (picked_pushed f x l h))
 
@@ -62,14 +62,14 @@ module _ (s : TeamComposition) (r : Roster) (queue : List QueueEntry) where
 
   -- the loop has ended: no team is short, or there is no pick
   abbrev pub Ended : Filling → Type 0
-  Ended f = (short s f.teams ≡ false) ⊎ (nearest f.reference f.used queue ≡ none)
+  Ended f = (short s f.teams ≡ false) ⊎ (nearest f.reference f.used queue ≡ None)
 
   -- a pick, and what comes behind it
   ended_on : (k : ℕ) → ((f : Filling) → left s f.teams ≡ k → Fits s f.teams → Ended (filled s r queue k f)) →
       (f : Filling) → left s f.teams ≡ suc k → Fits s f.teams → (o : Option QueueEntry) → nearest f.reference f.used queue ≡ o →
       Ended (if_some o (λ e. filled s r queue k (picked s r f e)) f)
-  ended_on k rest f e l none h = inr h
-  ended_on k rest f e l (some x) h =
+  ended_on k rest f e l None h = inr h
+  ended_on k rest f e l (Some x) h =
       let t = short_left s f.teams k e in
       rw (picked_pushed f x l t)
       (rest (after r f x (takes_a s f.teams) (pushed s f.teams x.player)) (pushed_left s f.teams x.player l t k e) (pushed_fits s f.teams x.player l t))

@@ -1,7 +1,6 @@
 -- Document 01, "Greedy (`GreedySearch::search`)", and document 02, 2.2, "Equal distance goes to the longer wait".
-use Rattle.std.specs.Prelude.{ℕ, zero, suc, Bool, false, cond, ◌&&◌, ◌||◌, ltb, Float, length}
+use Rattle.std.specs.Prelude.{ℕ, zero, suc, Bool, false, cond, ◌&&◌, ◌||◌, ltb, Float, length, Option, None, Some, unwrap_or}
 use mathlib.Core.List.{List, [], ◌∷◌, ◌++◌, map, foldl}
-use Rattle.std.proofs.Math.Option.{Option, none, some, get_or}
 use Rattle.std.specs.Float.{inf, binary64}
 use Rattle.std.specs.Float.Ieee.{sub, lt, eq}
 use Rattle.base.specs.Floats as Floats
@@ -31,13 +30,13 @@ goes_before distance joined near since = lt distance near || (eq distance near &
 -- of the nearest so far and an entry that stands behind it, the one that goes first: where neither goes before the other it is "then
 -- the earlier place". "NaN or infinite distance is never picked"
 unfoldable pub closer : Float → Option QueueEntry → QueueEntry → Option QueueEntry
-closer reference none e = cond (lt (distance reference e.rating) (inf false)) (some e) none
-closer reference (some near) e =
-    cond (goes_before (distance reference e.rating) e.joined (distance reference near.rating) near.joined) (some e) (some near)
+closer reference None e = cond (lt (distance reference e.rating) (inf false)) (Some e) None
+closer reference (Some near) e =
+    cond (goes_before (distance reference e.rating) e.joined (distance reference near.rating) near.joined) (Some e) (Some near)
 
 -- "A pick is the unused entry" that is nearest, if there is one
 abbrev pub nearest : Float → List ℕ → List QueueEntry → Option QueueEntry
-nearest reference used queue = foldl (closer reference) none (without_all used queue)
+nearest reference used queue = foldl (closer reference) None (without_all used queue)
 
 -- ---- one anchor
 
@@ -53,7 +52,7 @@ opened used e = record { used = e.player ∷ used; teams = alone e.player; refer
 
 -- a player's roster rating, "0.0 where missing"
 abbrev pub roster_rating : Roster → ℕ → Float
-roster_rating r p = get_or (rating_of r p) Floats.zero
+roster_rating r p = unwrap_or (rating_of r p) Floats.zero
 
 -- "A's sum of roster ratings .., divided by A's length"; A is never empty here
 abbrev pub reference_of : Roster → List ℕ → Float
@@ -69,8 +68,8 @@ picked s r f e =
     }
 
 abbrev pub if_some : {A B : Type 0} → Option A → (A → B) → B → B
-if_some none f b = b
-if_some (some x) f b = f x
+if_some None f b = b
+if_some (Some x) f b = f x
 
 -- a pick for each seat that is left, as long as there is one
 unfoldable pub filled : TeamComposition → Roster → List QueueEntry → ℕ → Filling → Filling

@@ -1,7 +1,6 @@
 -- Document 02, 2.2, "Equal distance goes to the longer wait": one statement over the picks from any list of entries.
-use Rattle.std.specs.Prelude.{ℕ, ◌≤◌, ◌<◌, ◌≡◌, true, false, cond, ltb, Float}
+use Rattle.std.specs.Prelude.{ℕ, ◌≤◌, ◌<◌, ◌≡◌, true, false, cond, ltb, Float, Option, None, Some}
 use mathlib.Core.List.{List, ◌∷◌, ◌++◌, map, foldl}
-use Rattle.std.proofs.Math.Option.{Option, none, some}
 use Rattle.std.specs.Float.{inf}
 use Rattle.std.specs.Float.Ieee.{lt, eq}
 use Rattle.base.specs.Lists.{All}
@@ -26,18 +25,18 @@ pub record Foremost (reference : Float) (entries : List QueueEntry) (e : QueueEn
 
 -- of these entries the foremost is picked; none, where no distance is a number below infinity, whatever the joined times
 abbrev pub Picked : Float → List QueueEntry → Option QueueEntry → Type 0
-Picked reference entries none = All (λ x. lt (distance reference x.rating) (inf false) ≡ false) entries
-Picked reference entries (some e) = Foremost reference entries e
+Picked reference entries None = All (λ x. lt (distance reference x.rating) (inf false) ≡ false) entries
+Picked reference entries (Some e) = Foremost reference entries e
 
 -- ---- document 01's pick, which the Rust has
 
 -- "the strictly smallest distance ..; equal distance takes the earlier entry"
 abbrev pub closer_by_place : Float → Option QueueEntry → QueueEntry → Option QueueEntry
-closer_by_place reference none e = cond (lt (distance reference e.rating) (inf false)) (some e) none
-closer_by_place reference (some near) e = cond (lt (distance reference e.rating) (distance reference near.rating)) (some e) (some near)
+closer_by_place reference None e = cond (lt (distance reference e.rating) (inf false)) (Some e) None
+closer_by_place reference (Some near) e = cond (lt (distance reference e.rating) (distance reference near.rating)) (Some e) (Some near)
 
 abbrev pub nearest_by_place : Float → List ℕ → List QueueEntry → Option QueueEntry
-nearest_by_place reference used queue = foldl (closer_by_place reference) none (without_all used queue)
+nearest_by_place reference used queue = foldl (closer_by_place reference) None (without_all used queue)
 
 -- a queue put in order of joining, those who joined at the same time in their order
 abbrev pub by_joining : List QueueEntry → List QueueEntry

@@ -14,10 +14,10 @@ ghost use Rattle.matchmaker.specs.Quality.{match_of};
 ghost use Rattle.greedy.specs.Greedy.{greedy_matches, greedy_rule};
 ghost use Rattle.greedy.specs.Steps.{columns, magnitude_of, near_of, nearer_free, nearer_of, nearest_free, struck, marked, free_of, fill_of, opening, picking, filling, running, unmarked, FromQueue, paper_of, forming, handing};
 
-use base::{Checked, Refusal};
+use base::Refusal;
 use matchmaker::ProposedMatch;
 use queue::Queue;
-use seating::{Formed, TeamComposition};
+use seating::TeamComposition;
 
 // The nearest so far: its place and its distance.
 #[derive(Clone, Copy)]
@@ -45,52 +45,26 @@ pub struct Written {
 
 // The player, the entry's rating and the joined time at each place. Arrays that are lent need no copy.
 fn read(queue: Queue, players: &mut [u64; 64], entered: &mut [f64; 64], joined: &mut [u64; 64])
-    requires len_bound { queue.len ≤ 64 }
-    requires players_len { length players.old ≡ 64 }
-    requires entered_len { length entered.old ≡ 64 }
-    requires joined_len { length joined.old ≡ 64 }
-    ensures players_len_2 { (length players.new ≡ 64) × (take queue.len players.new ≡ map (λ e. e.player) (queue_of queue).entries) }
-    ensures entered_len_2 { (length entered.new ≡ 64) × (take queue.len entered.new ≡ map (λ e. e.rating) (queue_of queue).entries) }
-    ensures joined_len_2 { (length joined.new ≡ 64) × (take queue.len joined.new ≡ map (λ e. e.joined) (queue_of queue).entries) }
+    requires { queue.len ≤ 64 }
+    ensures players_after { take queue.len players.new ≡ map (λ e. e.player) (queue_of queue).entries }
+    ensures entered_after { take queue.len entered.new ≡ map (λ e. e.rating) (queue_of queue).entries }
+    ensures joined_after { take queue.len joined.new ≡ map (λ e. e.joined) (queue_of queue).entries }
 {
-    let n = queue.len;
-    let mut i: usize = 0;
-    while i < n {
+    for i in 0..queue.len {
         let entry = queue.entries[i];
         players[i] = entry.player;
         entered[i] = entry.rating;
         joined[i] = entry.joined;
-        i += 1;
     }
 }
 
-// The players in the order of some places.
-fn arrange_players(column: &[u64; 64], places: &[usize; 64], n: usize, out: &mut [u64; 64])
-    requires n_bound { n ≤ 64 }
-    requires column_len { length column.now ≡ 64 }
-    requires places_len { (length places.now ≡ 64) × All (λ p. p < n) (take n places.now) }
-    requires out_len { length out.old ≡ 64 }
-    ensures { (length out.new ≡ 64) × (take n out.new ≡ map (λ p. get_or column.now p 0) (take n places.now)) }
+// What a column says in the order of some places.
+fn arrange<T: Copy>(column: &[T; 64], places: &[usize], out: &mut [T; 64])
+    requires { (length places.now ≤ 64) × All (λ p. p < 64) places.now }
+    ensures { (nothing : _) → take (length places.now) out.new ≡ map (λ p. get_or column.now p nothing) places.now }
 {
-    let mut k: usize = 0;
-    while k < n {
-        out[k] = column[places[k]];
-        k += 1;
-    }
-}
-
-// The ratings in the order of some places.
-fn arrange_ratings(column: &[f64; 64], places: &[usize; 64], n: usize, out: &mut [f64; 64])
-    requires n_bound { n ≤ 64 }
-    requires column_len { length column.now ≡ 64 }
-    requires places_len { (length places.now ≡ 64) × All (λ p. p < n) (take n places.now) }
-    requires out_len { length out.old ≡ 64 }
-    ensures { (length out.new ≡ 64) × (take n out.new ≡ map (λ p. get_or column.now p nan) (take n places.now)) }
-{
-    let mut k: usize = 0;
-    while k < n {
-        out[k] = column[places[k]];
-        k += 1;
+    for (k, &place) in places.iter().enumerate() {
+        out[k] = column[place];
     }
 }
 
@@ -114,10 +88,7 @@ fn nearer(reference: f64, free: &[f64; 64], i: usize, best: Nearest) -> Nearest
 {
     let distance = magnitude(reference - free[i]);
     if distance < best.distance {
-        return Nearest {
-            place: i,
-            distance: distance,
-        };
+        return Nearest { place: i, distance };
     }
     best
 }
@@ -145,11 +116,9 @@ fn pick_nearest(reference: f64, free: &[f64; 64], n: usize) -> usize
     };
     let mut first = nobody;
     let mut second = nobody;
-    let mut i: usize = 0;
-    while i < half {
+    for i in 0..half {
         first = nearer(reference, free, i, first);
         second = nearer(reference, free, half + i, second);
-        i += 1;
     }
     if half + half < n {
         return nearer_place(first, nearer(reference, free, n - 1, second));
@@ -157,47 +126,36 @@ fn pick_nearest(reference: f64, free: &[f64; 64], n: usize) -> usize
     nearer_place(first, second)
 }
 
-// Every place of the player among the first n is used, and free no longer.
-fn mark(players: &[u64; 64], n: usize, used: &mut [bool; 64], free: &mut [f64; 64], player: u64)
-    requires n_bound { n ≤ 64 }
-    requires players_len { length players.now ≡ 64 }
-    requires used_len { length used.old ≡ 64 }
-    requires free_len { length free.old ≡ 64 }
-    ensures used_after { used.new ≡ marked player (take n players.now) used.old }
-    ensures free_after { free.new ≡ struck nan player (take n players.now) free.old }
+// Every place of the player is used, and free no longer.
+fn mark(players: &[u64], used: &mut [bool; 64], free: &mut [f64; 64], player: u64)
+    requires { length players.now ≤ 64 }
+    ensures used_after { used.new ≡ marked player players.now used.old }
+    ensures free_after { free.new ≡ struck nan player players.now free.old }
 {
     let nobody = 0.0 / 0.0;
-    let mut i: usize = 0;
-    while i < n {
-        if players[i] == player {
+    for (i, &other) in players.iter().enumerate() {
+        if other == player {
             used[i] = true;
             free[i] = nobody;
-            i += 1;
-        } else {
-            i += 1;
         }
     }
 }
 
 // The anchor at a place is used and opens team A.
 fn open(
-    players: &[u64; 64],
+    players: &[u64],
     ratings: &[f64; 64],
     rostered: &[f64; 64],
-    n: usize,
     used: &mut [bool; 64],
     free: &mut [f64; 64],
     at: usize,
 ) -> Filling
-    requires n_bound { (n ≤ 64) × (at < n) }
-    requires players_len { length players.now ≡ 64 }
-    requires used_len { length used.old ≡ 64 }
-    requires free_len { length free.old ≡ 64 }
-    ensures result_after { fill_of used.new result ≡ opening (columns (take n players.now) ratings.now rostered.now) used.old at }
-    ensures free_after { free.new ≡ struck nan (get_or (take n players.now) at 0) (take n players.now) free.old }
+    requires { (length players.now ≤ 64) × (at < length players.now) }
+    ensures result_after { fill_of used.new result ≡ opening (columns players.now ratings.now rostered.now) used.old at }
+    ensures free_after { free.new ≡ struck nan (get_or players.now at 0) players.now free.old }
 {
     let player = players[at];
-    mark(players, n, used, free, player);
+    mark(players, used, free, player);
     Filling {
         teams: seating::turns::opened(player),
         sum: 0.0 + rostered[at],
@@ -208,36 +166,33 @@ fn open(
 // The pick at a place takes a seat; after a pick of A's the reference becomes A's average.
 fn pick(
     sizes: TeamComposition,
-    players: &[u64; 64],
+    players: &[u64],
     rostered: &[f64; 64],
-    n: usize,
     used: &mut [bool; 64],
     free: &mut [f64; 64],
     filling: Filling,
     at: usize,
 ) -> Filling
-    requires a_bound { (sizes.a ≤ 8) × ((sizes.b ≤ 8) × ((n ≤ 64) × (at < n))) }
-    requires players_len { length players.now ≡ 64 }
-    requires used_len { length used.old ≡ 64 }
-    requires free_len { length free.old ≡ 64 }
-    ensures result_after { fill_of used.new result ≡ picking sizes (take n players.now) rostered.now (fill_of used.old filling) at }
-    ensures free_after { free.new ≡ struck nan (get_or (take n players.now) at 0) (take n players.now) free.old }
+    requires sizes_bound { (sizes.a ≤ 8) × (sizes.b ≤ 8) }
+    requires at_bound { (length players.now ≤ 64) × (at < length players.now) }
+    ensures result_after { fill_of used.new result ≡ picking sizes players.now rostered.now (fill_of used.old filling) at }
+    ensures free_after { free.new ≡ struck nan (get_or players.now at 0) players.now free.old }
 {
     let player = players[at];
-    mark(players, n, used, free, player);
+    mark(players, used, free, player);
     let before = filling.teams;
     let teams = seating::turns::seat_next(sizes, before, player);
     if seating::turns::takes_a(sizes, before) {
         let sum = filling.sum + rostered[at];
         let a = teams.a;
         return Filling {
-            teams: teams,
-            sum: sum,
+            teams,
+            sum,
             reference: matchmaker::average(sum, a.held()),
         };
     }
     Filling {
-        teams: teams,
+        teams,
         sum: filling.sum,
         reference: filling.reference,
     }
@@ -246,32 +201,27 @@ fn pick(
 // The anchor at a place, with a pick for each seat that is left, as long as there is one.
 fn fill(
     sizes: TeamComposition,
-    players: &[u64; 64],
+    players: &[u64],
     ratings: &[f64; 64],
     rostered: &[f64; 64],
-    n: usize,
     used: &mut [bool; 64],
     free: &mut [f64; 64],
     at: usize,
 ) -> Filling
-    requires a_bound { (sizes.a ≤ 8) × ((sizes.b ≤ 8) × ((n ≤ 64) × (at < n))) }
-    requires players_len { length players.now ≡ 64 }
-    requires ratings_len { length ratings.now ≡ 64 }
-    requires used_len { length used.old ≡ 64 }
+    requires sizes_bound { (sizes.a ≤ 8) × (sizes.b ≤ 8) }
+    requires at_bound { (length players.now ≤ 64) × (at < length players.now) }
     requires free_value { free.old ≡ free_of ratings.now used.old }
-    ensures result_after { fill_of used.new result ≡ filling sizes (columns (take n players.now) ratings.now rostered.now) n (seats_left sizes) (opening (columns (take n players.now) ratings.now rostered.now) used.old at) }
-    ensures used_len_2 { length used.new ≡ 64 }
+    ensures result_after { fill_of used.new result ≡ filling sizes (columns players.now ratings.now rostered.now) (length players.now) (seats_left sizes) (opening (columns players.now ratings.now rostered.now) used.old at) }
     ensures free_after { free.new ≡ free_of ratings.now used.new }
 {
-    let mut out = open(players, ratings, rostered, n, used, free, at);
-    let mut left = seating::turns::seats_left(sizes);
-    while 0 < left {
+    let n = players.len();
+    let mut out = open(players, ratings, rostered, used, free, at);
+    for _ in 0..seating::turns::seats_left(sizes) {
         let next = pick_nearest(out.reference, free, n);
         if n <= next {
             return out;
         }
-        out = pick(sizes, players, rostered, n, used, free, out, next);
-        left -= 1;
+        out = pick(sizes, players, rostered, used, free, out, next);
     }
     out
 }
@@ -316,37 +266,28 @@ fn form(
 // The matches of n anchors, each at its place in the columns, on the sheets with their qualities, and their number.
 fn match_all(
     sizes: TeamComposition,
-    players: &[u64; 64],
+    players: &[u64],
     entered: &[f64; 64],
     rostered: &[f64; 64],
     turns: &[usize; 64],
-    n: usize,
     ids: &[u64],
     ratings: &[f64],
     seats: &mut [u64],
     qualities: &mut [f64],
 ) -> usize
-    requires a_bound { (sizes.a ≤ 8) × ((sizes.b ≤ 8) × (n ≤ 64)) }
-    requires players_len { length players.now ≡ 64 }
-    requires entered_len { length entered.now ≡ 64 }
-    requires turns_len { (length turns.now ≡ 64) × All (λ p. p < n) (take n turns.now) }
-    requires n_in_bounds { n ≤ length qualities.old }
-    ensures { RatedOut (of_ratings ids.now ratings.now) (running sizes (columns (take n players.now) entered.now rostered.now) turns.now n unmarked).matches seats.old qualities.old result seats.new qualities.new }
+    requires sizes_bound { (sizes.a ≤ 8) × (sizes.b ≤ 8) }
+    requires turns_bound { (length players.now ≤ 64) × All (λ p. p < length players.now) (take (length players.now) turns.now) }
+    requires in_bounds { length players.now ≤ length qualities.old }
+    ensures { RatedOut (of_ratings ids.now ratings.now) (running sizes (columns players.now entered.now rostered.now) turns.now (length players.now) unmarked).matches seats.old qualities.old result seats.new qualities.new }
 {
     let mut used = [false; 64];
     let mut free = *entered;
     let mut written = Written { seats: 0, count: 0 };
-    let mut i: usize = 0;
-    while i < n {
+    for i in 0..players.len() {
         let at = turns[i];
-        if used[at] {
-            i += 1;
-        } else {
-            let filled = fill(
-                sizes, players, entered, rostered, n, &mut used, &mut free, at,
-            );
+        if !used[at] {
+            let filled = fill(sizes, players, entered, rostered, &mut used, &mut free, at);
             written = form(sizes, filled.teams, ids, ratings, written, seats, qualities);
-            i += 1;
         }
     }
     written.count
@@ -356,13 +297,7 @@ fn match_all(
 fn as_they_come() -> [usize; 64]
     ensures { result ≡ places_from 0 64 }
 {
-    let mut row = [0; 64];
-    let mut i: usize = 0;
-    while i < 64 {
-        row[i] = i;
-        i += 1;
-    }
-    row
+    std::array::from_fn(|place| place)
 }
 
 // The matches of a queue whose columns these are, picked in order of joining: there the earlier place of equal distances is the
@@ -379,27 +314,24 @@ fn match_by_joining(
     seats: &mut [u64],
     qualities: &mut [f64],
 ) -> usize
-    requires a_bound { (sizes.a ≤ 8) × ((sizes.b ≤ 8) × (n ≤ 64)) }
-    requires players_len { length players.now ≡ 64 }
-    requires entered_len { length entered.now ≡ 64 }
-    requires rostered_len { length rostered.now ≡ 64 }
-    requires n_in_bounds { n ≤ length qualities.old }
+    requires sizes_bound { (sizes.a ≤ 8) × (sizes.b ≤ 8) }
+    requires n_bound { (n ≤ 64) × (n ≤ length qualities.old) }
     ensures { (queue : List QueueEntry) → FromQueue (of_ratings ids.now ratings.now) queue n players.now entered.now rostered.now joined → RatedOut (of_ratings ids.now ratings.now) (greedy_matches sizes (of_ratings ids.now ratings.now) queue) seats.old qualities.old result seats.new qualities.new }
 {
     let order = ranking::times::by_time(joined, n);
+    let places = &order.places[..n];
     let mut named = [0; 64];
-    arrange_players(players, &order.places, n, &mut named);
+    arrange(players, places, &mut named);
     let mut rated = [0.0; 64];
-    arrange_ratings(entered, &order.places, n, &mut rated);
+    arrange(entered, places, &mut rated);
     let mut known = [0.0; 64];
-    arrange_ratings(rostered, &order.places, n, &mut known);
+    arrange(rostered, places, &mut known);
     match_all(
         sizes,
-        &named,
+        &named[..n],
         &rated,
         &known,
         &order.stands,
-        n,
         ids,
         ratings,
         seats,
@@ -415,7 +347,7 @@ fn matches(
     ratings: &[f64],
     seats: &mut [u64],
     qualities: &mut [f64],
-) -> Formed
+) -> Result<usize, Refusal>
     requires a_bound { (sizes.a ≤ 8) × ((sizes.b ≤ 8) × (queue.len ≤ 64)) }
     requires in_bounds { 64 ≤ length seats.old }
     requires in_bounds_2 { 64 ≤ length qualities.old }
@@ -427,17 +359,25 @@ fn matches(
     let mut joined = [0; 64];
     read(queue, &mut players, &mut entered, &mut joined);
     if queue::time::any_over(&joined[..n]) {
-        return Formed::Refused(Refusal::Clock);
+        return Err(Refusal::Clock);
     }
     let mut rostered = [0.0; 64];
     roster::places::write_values(ids, ratings, &players[..n], &mut rostered);
     if ranking::times::never_falls(&joined[..n]) {
         let turns = as_they_come();
-        return Formed::Count(match_all(
-            sizes, &players, &entered, &rostered, &turns, n, ids, ratings, seats, qualities,
+        return Ok(match_all(
+            sizes,
+            &players[..n],
+            &entered,
+            &rostered,
+            &turns,
+            ids,
+            ratings,
+            seats,
+            qualities,
         ));
     }
-    Formed::Count(match_by_joining(
+    Ok(match_by_joining(
         sizes, &players, &entered, &rostered, joined, n, ids, ratings, seats, qualities,
     ))
 }
@@ -455,19 +395,17 @@ impl GreedySearch {
         ratings: &[f64],
         players: &mut [u64],
         qualities: &mut [f64],
-    ) -> Formed
+    ) -> Result<usize, Refusal>
         ensures { leaving result players.exit.now qualities.new ≡ greedy_rule sizes (of_ratings ids.now ratings.now) (queue_of queue) (record { players = players.entry.now; qualities = qualities.old }) }
     {
-        if let Checked::Refused(refusal) = seating::searching::check_first(
+        seating::searching::check_first(
             queue.len,
             sizes,
             ids,
             ratings,
             players.len(),
             qualities.len(),
-        ) {
-            return Formed::Refused(refusal);
-        }
+        )?;
         matches(sizes, queue, ids, ratings, players, qualities)
     }
 }

@@ -3,19 +3,19 @@ use Prim.Native.Nat.{ℕ, ◌*◌, ◌≤◌}
 use mathlib.Core.Path.{◌≡◌, refl, sym, ap, ◌∙◌}
 use mathlib.Core.Bool.{Bool, true, false, cond}
 use mathlib.Core.List.{List, [], ◌∷◌, ◌++◌, map, append-nil}
-use mathlib.Core.Option.{none, some}
+use Rattle.std.specs.Prelude.{None, Some}
 use native.Mathlib.Nat.{not-suc-le-zero}
 use native.Mathlib.Omega.{arith}
 use borrow.Author.Tests.{ltb-false}
 use lib.Dec.{ltb}
 use lib.Ieee.{Float}
 use lib.ListN.{length, take, drop, set, length-append, length-take}
-use Rattle.base.specs.declared.Checked.{Checked}
-use Rattle.base.specs.declared.Checked.TheVariants.{Passed, Refused}
+use Rattle.std.specs.Prelude.{Result}
+use Rattle.std.specs.Prelude.{Ok, Err}
 use Rattle.base.specs.declared.Refusal.{Refusal}
 use Rattle.base.specs.Floats as Floats
 use Rattle.base.specs.Lists.{any}
-use Rattle.base.specs.Refusals.{Outcome, refused, gives, guarded, refusal_number, checked_of}
+use Rattle.base.specs.Refusals.{Outcome, refused, gives, guarded, refusal_number, outcome_of}
 use Rattle.base.proofs.Cases.{never}
 use Rattle.base.proofs.Checks.{neither}
 use Rattle.queue.specs.Time.{time_over}
@@ -48,9 +48,9 @@ passing true rest e = never cc
 passing false rest e = refl
 
 -- sheets that pass have the places of a match
-pub places_fit : (clock players qualities : ℕ) {k : Checked} → k ≡ Passed → checked_of k ≡ sheets_and_clock_check clock players qualities → (16 ≤ players) × (1 ≤ qualities)
+pub places_fit : (clock players qualities : ℕ) {k : Result Unit Refusal} → k ≡ Ok tt → outcome_of k ≡ sheets_and_clock_check clock players qualities → (16 ≤ players) × (1 ≤ qualities)
 places_fit clock players qualities e g =
-    let p = passing (are_short players qualities) (cond (time_over clock) (refused 4) (gives tt)) (sym (ap checked_of e) ∙ g) in
+    let p = passing (are_short players qualities) (cond (time_over clock) (refused 4) (gives tt)) (sym (ap outcome_of e) ∙ g) in
     let y = neither (ltb players 64) (ltb qualities 64) p in
     (omega (arith, ltb-false players 64 y.0), omega (arith, ltb-false qualities 64 y.1))
 
@@ -71,12 +71,12 @@ module _ (sheets : Sheets) {v : Outcome Selection} where
   choice_refused x e g = handed_refused quality sheets x (ap selected e) g
 
   -- no choice passes
-  pub choice_none : {n : ℕ} → v ≡ gives (record { best = none; tried = n }) → HandedNumbers quality sheets (selected v) (record { count = 0; seats = 0; tried = n; refusal = 0 }) sheets.players sheets.qualities
+  pub choice_none : {n : ℕ} → v ≡ gives (record { best = None; tried = n }) → HandedNumbers quality sheets (selected v) (record { count = 0; seats = 0; tried = n; refusal = 0 }) sheets.players sheets.qualities
   unfolding seats
   choice_none {n} e = rw e (record { handed = refl; count = refl; tried = refl; fits = omega arith; seated = refl })
 
   -- a choice stands on the sheets
-  pub choice_given : (m : MatchState) {n : ℕ} → v ≡ gives (record { best = some m; tried = n }) → length (seated m) ≤ length sheets.players → 1 ≤ length sheets.qualities → {ps : List ℕ} {qs : List Float} → ps ≡ overlaid (seated m) sheets.players → qs ≡ set sheets.qualities 0 Floats.zero → {each : ℕ} → each ≡ length (seated m) → HandedNumbers quality sheets (selected v) (record { count = 1; seats = each; tried = n; refusal = 0 }) ps qs
+  pub choice_given : (m : MatchState) {n : ℕ} → v ≡ gives (record { best = Some m; tried = n }) → length (seated m) ≤ length sheets.players → 1 ≤ length sheets.qualities → {ps : List ℕ} {qs : List Float} → ps ≡ overlaid (seated m) sheets.players → qs ≡ set sheets.qualities 0 Floats.zero → {each : ℕ} → each ≡ length (seated m) → HandedNumbers quality sheets (selected v) (record { count = 1; seats = each; tried = n; refusal = 0 }) ps qs
   unfolding seats
   choice_given m {n} e room space {ps} {qs} p q {each} held =
       let a : ps ≡ seated m ++ drop (length (seated m)) sheets.players = p ∙ overlaid_fits (seated m) sheets.players room in
@@ -122,26 +122,26 @@ module _ (s : TeamComposition) (c : Constraints) (friends : Bool) (objectives : 
   abbrev own : List QueueEntry
   own = map entry_of (eligible g ws)
 
-  module _ (k : Checked) (checked : checked_of k ≡ sheets_and_clock_check at (length sheets.players) (length sheets.qualities)) where
+  module _ (k : Result Unit Refusal) (checked : outcome_of k ≡ sheets_and_clock_check at (length sheets.players) (length sheets.qualities)) where
     -- the check refuses: the answer is the terms' refusal, or else the check's
-    pub full_refused : (x : Refusal) → k ≡ Refused x → (y : Refusal) → checked_of (Refused y) ≡ guarded (terms_check r c count s) (checked_of (Refused x)) → {h : Handed} → h ≡ refusing y → Full h sheets.players sheets.qualities
+    pub full_refused : (x : Refusal) → k ≡ Err x → (y : Refusal) → ◌≡◌ {A = Outcome Unit} (refused (refusal_number y)) (guarded (terms_check r c count s) (refused (refusal_number x))) → {h : Handed} → h ≡ refusing y → Full h sheets.players sheets.qualities
     unfolding findings
     full_refused x e y f i =
         let z =
         stopped (terms_check r c count s) (are_short (length sheets.players) (length sheets.qualities)) (time_over (clock_among clock ws)) (too_wide own) (chosen given s own)
-        (rw heard at (sym (ap checked_of e) ∙ checked)) f in
+        (rw heard at (sym (ap outcome_of e) ∙ checked)) f in
         handed_refused quality sheets y (rw (← clock_over clock ws) z) i
 
     -- the check passes: what is found is the choice
-    full_found : k ≡ Passed → findings (full given) clock sheets s own ws ≡ selected (choice_rule given s (holding own))
+    full_found : k ≡ Ok tt → findings (full given) clock sheets s own ws ≡ selected (choice_rule given s (holding own))
     unfolding findings
     full_found e =
         rw (entries_over (eligible g ws), ← clock_over clock ws)
         (unstopped (ltb 64 (length own)) (terms_check r c count s)
-        (are_short (length sheets.players) (length sheets.qualities)) (time_over (clock_among clock ws)) (any has_time_over (eligible g ws)) (too_wide own) (chosen given s own) (entries_fit g ws few) (own_over clock ws g) (rw heard at (sym (ap checked_of e) ∙ checked)))
+        (are_short (length sheets.players) (length sheets.qualities)) (time_over (clock_among clock ws)) (any has_time_over (eligible g ws)) (too_wide own) (chosen given s own) (entries_fit g ws few) (own_over clock ws g) (rw heard at (sym (ap outcome_of e) ∙ checked)))
 
     -- the check passes: the choice decides
-    pub full_given : k ≡ Passed → {q : QueueState} → q ≡ holding own → {v : Outcome Selection} → v ≡ choice_rule given s q → {h : Handed} {ps : List ℕ} {qs : List Float} → HandedNumbers quality sheets (selected v) h ps qs → Full h ps qs
+    pub full_given : k ≡ Ok tt → {q : QueueState} → q ≡ holding own → {v : Outcome Selection} → v ≡ choice_rule given s q → {h : Handed} {ps : List ℕ} {qs : List Float} → HandedNumbers quality sheets (selected v) h ps qs → Full h ps qs
     full_given e {q} w {v} i {h} {ps} {qs} z =
         let k : selected v ≡ findings (full given) clock sheets s own ws = ap selected (i ∙ ap (choice_rule given s) w) ∙ sym (full_found e) in
         rw k at z

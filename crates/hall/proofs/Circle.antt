@@ -4,7 +4,7 @@ use mathlib.Core.Path.{◌≡◌, sym, ap, ◌∙◌, subst}
 use mathlib.Core.Bool.{Bool, true, false}
 use mathlib.Core.Logic.{◌↔◌}
 use mathlib.Core.List.{List, [], ◌∷◌, ◌++◌, map}
-use mathlib.Core.Option.{none, some}
+use Rattle.std.specs.Prelude.{None, Some}
 use native.Mathlib.Omega.{arith}
 use lib.Dec.{eqb}
 use lib.ListN.{get_or}
@@ -16,7 +16,7 @@ use Rattle.hall.specs.Games.{turn_at, circle, next_game}
 -- ---- which game is next
 
 -- one game is next, not two
-the_same : {x y : ℕ} → some x ≡ some y → x ≡ y
+the_same : {x y : ℕ} → Some x ≡ Some y → x ≡ y
 the_same e = cc
 
 -- x is the first in the list that p holds of
@@ -28,37 +28,37 @@ pub record FirstReady (p : ℕ → Bool) (xs : List ℕ) (x : ℕ) : Type 0 wher
   pub holds : p x ≡ true
 
 -- the one that is found is the first
-seek_first : (p : ℕ → Bool) (xs : List ℕ) (x : ℕ) → seek p some none xs ≡ some x → FirstReady p xs x
+seek_first : (p : ℕ → Bool) (xs : List ℕ) (x : ℕ) → seek p Some None xs ≡ Some x → FirstReady p xs x
 unfolding seek
 seek_first p [] x e = never cc
 seek_first p (y ∷ ys) x e =
     cases (p y)
-    (λ t. let z : some y ≡ some x = rw t at e in let q : y ≡ x = cc in
+    (λ t. let z : Some y ≡ Some x = rw t at e in let q : y ≡ x = cc in
     record { before = []; behind = ys; order = ap (λ (n : ℕ). n ∷ ys) q; passed = tt; holds = ap p (sym q) ∙ t })
     (λ f. let i : FirstReady p ys x = seek_first p ys x (rw f at e) in
     record { before = y ∷ i.before; behind = i.behind; order = ap (λ (l : List ℕ). y ∷ l) i.order; passed = (f, i.passed); holds = i.holds })
 
 -- the first is the one that is found
-first_seek : (p : ℕ → Bool) (before behind : List ℕ) (x : ℕ) → All (λ y. p y ≡ false) before → p x ≡ true → seek p some none (before ++ (x ∷ behind)) ≡ some x
+first_seek : (p : ℕ → Bool) (before behind : List ℕ) (x : ℕ) → All (λ y. p y ≡ false) before → p x ≡ true → seek p Some None (before ++ (x ∷ behind)) ≡ Some x
 unfolding seek
 first_seek p [] behind x a t = rw t
 first_seek p (y ∷ ys) behind x a t = rw a.0 (first_seek p ys behind x a.1 t)
 
 -- a game is next exactly where it is ready and no game before it in the circle is
-pub next_iff : (ready : ℕ → Bool) (last g : ℕ) → (next_game ready last ≡ some g) ↔ FirstReady ready (circle last) g
+pub next_iff : (ready : ℕ → Bool) (last g : ℕ) → (next_game ready last ≡ Some g) ↔ FirstReady ready (circle last) g
 next_iff ready last g = (
   seek_first ready (circle last) g,
-  λ f. ap (seek ready some none) f.order ∙ first_seek ready f.before f.behind g f.passed f.holds,
+  λ f. ap (seek ready Some None) f.order ∙ first_seek ready f.before f.behind g f.passed f.holds,
 )
 
 -- the next game is one of 0 to 7
-seek_all : (P : ℕ → Type 0) (p : ℕ → Bool) (xs : List ℕ) (x : ℕ) → All P xs → seek p some none xs ≡ some x → P x
+seek_all : (P : ℕ → Type 0) (p : ℕ → Bool) (xs : List ℕ) (x : ℕ) → All P xs → seek p Some None xs ≡ Some x → P x
 unfolding seek
 seek_all P p [] x a e = never cc
 seek_all P p (y ∷ ys) x a e =
-    cases (p y) (λ t. let z : some y ≡ some x = rw t at e in subst P (the_same z) a.0) (λ f. seek_all P p ys x a.1 (rw f at e))
+    cases (p y) (λ t. let z : Some y ≡ Some x = rw t at e in subst P (the_same z) a.0) (λ f. seek_all P p ys x a.1 (rw f at e))
 
-pub next_low : (ready : ℕ → Bool) (last g : ℕ) → next_game ready last ≡ some g → g < 8
+pub next_low : (ready : ℕ → Bool) (last g : ℕ) → next_game ready last ≡ Some g → g < 8
 next_low ready last g = seek_all (λ x. x < 8) ready (circle last) g (omega arith)
 
 -- the circle by places, for a loop that counts from 0
@@ -100,7 +100,7 @@ record Reached (ready : ℕ → Bool) (last k n j : ℕ) : Type 0 where
   at : ℕ
   low : k ≤ at
   high : at ≤ j
-  found : seek ready some none (map (turn_at last) (places_from k n)) ≡ some (turn_at last at)
+  found : seek ready Some None (map (turn_at last) (places_from k n)) ≡ Some (turn_at last at)
 
 -- where the game at place j is ready, one is found, and not behind it
 reach : (ready : ℕ → Bool) (last n k j : ℕ) → k ≤ j → j < k + n → ready (turn_at last j) ≡ true → Reached ready last k n j
@@ -119,16 +119,16 @@ module _ (ready : ℕ → Bool) (last g : ℕ) (h : g < 8) (l : last ≤ 255) (t
   in_reach = reach ready last 8 1 (suc (ahead last g)) (omega arith) (omega (arith, ahead_few last g)) (ap ready (ahead_turn last g h l) ∙ t)
 
   -- while game g is ready, some game is next
-  pub some_next : (x : ℕ) × (next_game ready last ≡ some x)
+  pub some_next : (x : ℕ) × (next_game ready last ≡ Some x)
   unfolding places_from
   some_next = (turn_at last in_reach.at, in_reach.found)
 
   -- while game g is ready, another game that is next is nearer to it than the last one was
-  pub nearer : (x : ℕ) → next_game ready last ≡ some x → eqb x g ≡ false → ahead x g < ahead last g
+  pub nearer : (x : ℕ) → next_game ready last ≡ Some x → eqb x g ≡ false → ahead x g < ahead last g
   unfolding places_from
   nearer x e f = subst (λ (n : ℕ). ahead n g < ahead last g) q (ahead_less last g in_reach.at h l in_reach.low short)
     where
-      here : next_game ready last ≡ some (turn_at last in_reach.at)
+      here : next_game ready last ≡ Some (turn_at last in_reach.at)
       here = in_reach.found
 
       q : turn_at last in_reach.at ≡ x

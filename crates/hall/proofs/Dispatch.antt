@@ -4,7 +4,7 @@ use mathlib.Core.Path.{◌≡◌, refl, sym, ap, ◌∙◌}
 use mathlib.Core.Bool.{true, false, ◌||◌}
 use mathlib.Core.Logic.{◌↔◌}
 use mathlib.Core.List.{[]}
-use mathlib.Core.Option.{Option, none, some, get_or}
+use Rattle.std.specs.Prelude.{Option, None, Some, unwrap_or}
 use native.Mathlib.Omega.{arith}
 use borrow.Author.Tests.{eqb-true, ltb-false, le-ltb}
 use lib.Dec.{eqb, ltb}
@@ -37,7 +37,7 @@ by_game_stays h c g m p = go (round_found h c)
   where
     go : (x : Outcome Found) → (departing h (served_by h c.round) x).served ≡ h.served
     go (refused n) = refl
-    go (gives f) = ap (λ (r : Round). get_or (served_by h r) h.served) p
+    go (gives f) = ap (λ (r : Round). unwrap_or (served_by h r) h.served) p
 
 module _ (h : HallState) (r : Roster) (clock : ℕ) (sheets : Sheets) where
   -- the dispatch, and the greedy round of a game, with this roster, clock and sheets
@@ -57,42 +57,42 @@ module _ (h : HallState) (r : Roster) (clock : ℕ) (sheets : Sheets) where
     serves_next = rw free
 
     -- it serves game g exactly where g has enough, and no game before it in the circle from the last one served on has
-    pub serves_iff : (g : ℕ) → ((round_rule h dispatching).served ≡ some g) ↔ FirstReady (ready h) (circle h.served) g
+    pub serves_iff : (g : ℕ) → ((round_rule h dispatching).served ≡ Some g) ↔ FirstReady (ready h) (circle h.served) g
     serves_iff g = rw serves_next (next_iff (ready h) h.served g)
 
     -- it serves none exactly where no game has enough
-    pub serves_none_iff : ((round_rule h dispatching).served ≡ none) ↔ ((g : ℕ) → g < 8 → ready h g ≡ false)
+    pub serves_none_iff : ((round_rule h dispatching).served ≡ None) ↔ ((g : ℕ) → g < 8 → ready h g ≡ false)
     serves_none_iff = rw serves_next (to, from)
       where
-        to : next ≡ none → (g : ℕ) → g < 8 → ready h g ≡ false
+        to : next ≡ None → (g : ℕ) → g < 8 → ready h g ≡ false
         to e g l =
             cases (ready h g)
-            (λ t. let s = some_next (ready h) h.served g l (last_low h (round_within h dispatching f free)) t in let z : none ≡ some s.0 = sym e ∙ s.1 in never cc)
+            (λ t. let s = some_next (ready h) h.served g l (last_low h (round_within h dispatching f free)) t in let z : None ≡ Some s.0 = sym e ∙ s.1 in never cc)
             (λ k. k)
 
-        from : ((g : ℕ) → g < 8 → ready h g ≡ false) → next ≡ none
+        from : ((g : ℕ) → g < 8 → ready h g ≡ false) → next ≡ None
         from k = go next refl
           where
-            go : (x : Option ℕ) → next ≡ x → next ≡ none
-            go none e = e
-            go (some g) e =
+            go : (x : Option ℕ) → next ≡ x → next ≡ None
+            go None e = e
+            go (Some g) e =
                 let z : true ≡ false = sym ((next_iff (ready h) h.served g).0 e).holds ∙ k g (next_low (ready h) h.served g e) in
                 never cc
 
     -- the game that it serves is the last one served from then on; where it serves none, that stays as it was
-    pub keeps_next : (round_rule h dispatching).hall.served ≡ get_or next h.served
+    pub keeps_next : (round_rule h dispatching).hall.served ≡ unwrap_or next h.served
     keeps_next = rw free
 
     -- where it serves none it finds nothing
-    pub finds_none : next ≡ none → f.matches ≡ []
+    pub finds_none : next ≡ None → f.matches ≡ []
     finds_none e = sym (ap (λ (x : Found). x.matches) (given (rw e at (round_found_lem h dispatching f free))))
 
   -- a dispatch that serves none leaves the hall as it was, where the hall states the number of those who wait
-  pub none_stays : (round_rule h dispatching).served ≡ none → h.waiting ≡ awaiting h.waiting.bookings → (round_rule h dispatching).hall ≡ h
+  pub none_stays : (round_rule h dispatching).served ≡ None → h.waiting ≡ awaiting h.waiting.bookings → (round_rule h dispatching).hall ≡ h
   unfolding seats
   none_stays e w = go (round_found h dispatching) refl e
     where
-      go : (x : Outcome Found) → round_found h dispatching ≡ x → served_in next x ≡ none → departing h next x ≡ h
+      go : (x : Outcome Found) → round_found h dispatching ≡ x → served_in next x ≡ None → departing h next x ≡ h
       go (refused n) p e = refl
       go (gives f) p e =
           rw (e, finds_none f p e, stay_nobody (λ b. b.player) h.waiting.bookings)
@@ -104,17 +104,17 @@ module _ (h : HallState) (r : Roster) (clock : ℕ) (sheets : Sheets) where
     pub waiting : (round_rule h dispatching).hall.waiting ≡ (round_rule h (playing g)).hall.waiting
 
   -- a dispatch that serves game g is a greedy round of game g
-  pub as_greedy : (g : ℕ) → (round_rule h dispatching).served ≡ some g → AsGreedy g
+  pub as_greedy : (g : ℕ) → (round_rule h dispatching).served ≡ Some g → AsGreedy g
   as_greedy g e =
       record {
         handed = rw (turn_of, known);
         waiting = ap (λ (x : Outcome Found). (departing h next x).waiting) found_alike ∙ leave (round_found h (playing g));
       }
     where
-      turn_of : next ≡ some g
+      turn_of : next ≡ Some g
       turn_of = go (round_found h dispatching) e
         where
-          go : (x : Outcome Found) → served_in next x ≡ some g → next ≡ some g
+          go : (x : Outcome Found) → served_in next x ≡ Some g → next ≡ Some g
           go (refused n) e = never cc
           go (gives f) e = e
 
@@ -124,6 +124,6 @@ module _ (h : HallState) (r : Roster) (clock : ℕ) (sheets : Sheets) where
       found_alike : round_found h dispatching ≡ round_found h (playing g)
       found_alike = rw (turn_of, known)
 
-      leave : (x : Outcome Found) → (departing h next x).waiting ≡ (departing h none x).waiting
+      leave : (x : Outcome Found) → (departing h next x).waiting ≡ (departing h None x).waiting
       leave (refused n) = refl
       leave (gives f) = refl

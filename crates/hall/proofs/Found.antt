@@ -3,7 +3,7 @@ use Prim.Native.Nat.{ℕ}
 use mathlib.Core.Path.{◌≡◌, refl, subst}
 use mathlib.Core.Bool.{Bool, true, false}
 use mathlib.Core.List.{List, [], ◌∷◌, map, map-map, append-nil}
-use mathlib.Core.Option.{Option, none, some}
+use Rattle.std.specs.Prelude.{Option, None, Some}
 use Rattle.base.specs.Refusals.{Outcome, refused, gives}
 use Rattle.base.specs.Lists.{seek, Distinct, Within}
 use Rattle.base.proofs.Cases.{never}
@@ -49,8 +49,8 @@ module _ (s : TeamComposition) (clock : ℕ) (es : List QueueEntry) where
   found_drawn (full t) f d e = go (chosen t s es) refl e
     where
       one : (sel : Selection) → chosen t s es ≡ gives sel → (o : Option MatchState) → sel.best ≡ o → Drawn s es (list_of o)
-      one sel p none q = drawn_none s es
-      one sel p (some m) q = drawn_one s es m d (chosen_best t s es sel p m q).filled
+      one sel p None q = drawn_none s es
+      one sel p (Some m) q = drawn_one s es m d (chosen_best t s es sel p m q).filled
 
       go : (x : Outcome Selection) → chosen t s es ≡ x → selected x ≡ gives f → Drawn s es f.matches
       go (refused n) p e = never cc
@@ -61,8 +61,8 @@ module _ (s : TeamComposition) (clock : ℕ) (es : List QueueEntry) where
   found_best t f e = go (chosen t s es) refl e
     where
       one : (sel : Selection) → chosen t s es ≡ gives sel → (o : Option MatchState) → sel.best ≡ o → FullRound t s es (list_of o)
-      one sel p none q = none_passes (Full.none_passes t s es sel p q)
-      one sel p (some m) q =
+      one sel p None q = none_passes (Full.none_passes t s es sel p q)
+      one sel p (Some m) q =
           let b : BestChoice t s es m = chosen_best t s es sel p m q in
           best m b.last.front b.last.back b.last.whole b.tops
 
@@ -79,15 +79,15 @@ players bs = map-map (λ (e : QueueEntry). e.player) entry_of bs
 module _ (ws : List Booking) where
   -- nobody whom a round may seat stands there twice
   eligible_distinct : (g : Option ℕ) → Distinct (map (λ b. b.player) ws) → Distinct (map (λ b. b.player) (eligible_by g ws))
-  eligible_distinct none d = tt
-  eligible_distinct (some g) d = distinct_keep (λ b. b.player) _ ws d
+  eligible_distinct None d = tt
+  eligible_distinct (Some g) d = distinct_keep (λ b. b.player) _ ws d
 
   -- and all of them wait
   pub eligible_waits : (g : Option ℕ) (ns : List ℕ) → Within ns (map (λ b. b.player) (eligible_by g ws)) → Within ns (map (λ b. b.player) ws)
   unfolding seek
-  eligible_waits none [] w = tt
-  eligible_waits none (n ∷ ns) w = never (let z : false ≡ true = w.0 in cc)
-  eligible_waits (some g) ns w = within_keep (λ b. b.player) _ ns ws w
+  eligible_waits None [] w = tt
+  eligible_waits None (n ∷ ns) w = never (let z : false ≡ true = w.0 in cc)
+  eligible_waits (Some g) ns w = within_keep (λ b. b.player) _ ns ws w
 
 -- ---- what a round hands out
 

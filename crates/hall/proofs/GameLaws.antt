@@ -3,8 +3,8 @@ use Prim.Native.Nat.{ℕ, ◌+◌, ◌-◌, ◌%◌, ◌≤◌, ◌<◌}
 use mathlib.Core.Path.{◌≡◌, sym, ap, ◌∙◌}
 use mathlib.Core.Bool.{Bool, true, false, not, and-false, and-true}
 use mathlib.Core.List.{List}
-use mathlib.Core.Option
-use mathlib.Core.Option.{none, some}
+use Rattle.std.specs.Prelude.{unwrap_or}
+use Rattle.std.specs.Prelude.{None, Some}
 use native.Mathlib.Omega.{arith}
 use borrow.Author.Tests.{lt-ltb, le-ltb, le-leb, lt-leb, ne_eqb}
 use lib.Dec.{eqb, ltb}
@@ -57,21 +57,21 @@ module _ (sizes : List TeamComposition) (served : ℕ) where
     over_none h = rw (sized, lt-ltb 7 served h)
 
 -- none was served: the last one stays
-pub none_last : (last served : ℕ) → served ≡ no_game → last ≡ Option.get_or (game_in served) last
+pub none_last : (last served : ℕ) → served ≡ no_game → last ≡ unwrap_or (game_in served) last
 none_last last served e = rw e
 
 -- one was: it is the last
-pub served_last : (last served : ℕ) → (served ≡ no_game → ⊥) → served ≡ Option.get_or (game_in served) last
+pub served_last : (last served : ℕ) → (served ≡ no_game → ⊥) → served ≡ unwrap_or (game_in served) last
 served_last last served e = rw (ne_eqb served no_game e)
 
 -- ---- the search along the circle
 
 -- the rest of the circle gives what the whole gives
 abbrev pub Rest : (ℕ → Bool) → ℕ → ℕ → Type 0
-Rest ready last i = next_game ready last ≡ seek ready some none (drop i (circle last))
+Rest ready last i = next_game ready last ≡ seek ready Some None (drop i (circle last))
 
 -- a byte that is no game's stands for none, and a game's for the game
-pub game_told : (g : ℕ) → g < 8 → game_in g ≡ some g
+pub game_told : (g : ℕ) → g < 8 → game_in g ≡ Some g
 game_told g h = let z : g ≡ no_game → ⊥ = λ e. omega (arith, e) in rw (ne_eqb g no_game z)
 
 module _ (ready : ℕ → Bool) (last i : ℕ) (inv : Rest ready last i) (g : ℕ) (at : g ≡ (last + 1 + i) % 8) where
@@ -83,12 +83,12 @@ module _ (ready : ℕ → Bool) (last i : ℕ) (inv : Rest ready last i) (g : �
   pub next_hit : i < 8 → true ≡ ready g → game_in g ≡ next_game ready last
   next_hit h e =
       let low : g < 8 = omega arith in
-      game_told g low ∙ ap some (sym (stands h)) ∙ seek_hit ready some none (circle last) i 0 inv h (ap ready (stands h) ∙ sym e)
+      game_told g low ∙ ap Some (sym (stands h)) ∙ seek_hit ready Some None (circle last) i 0 inv h (ap ready (stands h) ∙ sym e)
 
   -- it is not
   pub next_on : i < 8 → false ≡ ready g → Rest ready last (i + 1)
-  next_on h e = seek_on ready some none (circle last) i 0 inv h (ap ready (stands h) ∙ sym e)
+  next_on h e = seek_on ready Some None (circle last) i 0 inv h (ap ready (stands h) ∙ sym e)
 
 -- none is
 pub next_none : (ready : ℕ → Bool) (last i : ℕ) → Rest ready last i → 8 ≤ i → game_in no_game ≡ next_game ready last
-next_none ready last i inv h = seek_end ready some none (circle last) i inv h
+next_none ready last i inv h = seek_end ready Some None (circle last) i inv h

@@ -1,19 +1,18 @@
 -- Laws of the key book over plain lists: what stands in its column and its notes, and what a note says to a call.
 use Prim.Native.Nat.{ℕ, suc, ◌+◌, ◌≤◌, ◌<◌}
 use mathlib.Core.Path.{◌≡◌, refl, sym, ap, ◌∙◌}
-use mathlib.Core.Bool.{Bool, true, false}
+use mathlib.Core.Bool.{true, false}
 use mathlib.Core.List.{List, [], ◌∷◌, ◌++◌}
-use mathlib.Core.Option.{none, some}
+use Rattle.std.specs.Prelude.{None, Some}
 use native.Mathlib.Omega.{arith}
 use native.Mathlib.Nat.{le_of_suc-le-suc, not-suc-le-zero}
 use lib.Dec.{eqb}
-use lib.ListN.{length, take, drop, get_or, set, length-set, length-take}
+use lib.ListN.{length, take, get_or, set, length-set}
 use lib.Seq.{length-take-le, get_or-take}
 use Rattle.base.specs.Lists.{seek, place}
 use Rattle.base.specs.Refusals.{Outcome, refused}
 use Rattle.base.proofs.Cases.{cases}
 use Rattle.base.proofs.Arrays.{push}
-use Rattle.base.proofs.Loops.{place_hit, place_on, place_end}
 use Rattle.hall.specs.declared.Note.{Note}
 use Rattle.hall.specs.Hall.{Content, same, KeyRecord, content_in, record_of, paired, log_with, logging, guest_alone, book, content_of, answer_in, look_up}
 use Rattle.hall.specs.Steps.{heard_or, heard_from, note_with}
@@ -21,24 +20,6 @@ use Rattle.hall.specs.Steps.{heard_or, heard_from, note_with}
 -- what is read past the end of an array of notes
 abbrev pub no_note : Note
 no_note = note_with (content_of (book (guest_alone 0))) 0
-
--- ---- the look-up, among the first n of a column
-
-module _ (p : ℕ → Bool) (ks : List ℕ) (n i : ℕ) (inv : place p (take n ks) ≡ i + place p (drop i (take n ks))) where
-  -- the key at i
-  pub key_hit : i < n → i < length ks → p (get_or ks i 0) ≡ true → i ≡ place p (take n ks)
-  key_hit h l e = place_hit p (take n ks) i 0 inv (omega (arith, length-take n ks)) (ap p (get_or-take n ks i 0 h) ∙ e)
-
-  -- another key at i
-  pub key_on : i < n → i < length ks → p (get_or ks i 0) ≡ false → place p (take n ks) ≡ i + 1 + place p (drop (i + 1) (take n ks))
-  key_on h l e = place_on p (take n ks) i 0 inv (omega (arith, length-take n ks)) (ap p (get_or-take n ks i 0 h) ∙ e)
-
-  -- the column ends, or its first n do
-  pub key_end_column : length ks ≤ i → i ≡ place p (take n ks)
-  key_end_column h = place_end p (take n ks) i inv (omega (arith, length-take n ks))
-
-  pub key_end : n ≤ i → i ≡ place p (take n ks)
-  key_end h = place_end p (take n ks) i inv (omega (arith, length-take n ks))
 
 -- ---- the column of keys beside the notes
 
@@ -70,7 +51,7 @@ paired_more (x ∷ xs) (y ∷ ys) k m e =
 
 module _ (key : ℕ) where
   -- the key's record stands at the key's place in the column
-  pub paired_at : (ks : List ℕ) (ms : List Note) → length ks ≡ length ms → place (λ x. eqb x key) ks < length ks → look_up key (paired ks ms) ≡ some (record_of (get_or ks (place (λ x. eqb x key) ks) 0) (get_or ms (place (λ x. eqb x key) ks) no_note))
+  pub paired_at : (ks : List ℕ) (ms : List Note) → length ks ≡ length ms → place (λ x. eqb x key) ks < length ks → look_up key (paired ks ms) ≡ Some (record_of (get_or ks (place (λ x. eqb x key) ks) 0) (get_or ms (place (λ x. eqb x key) ks) no_note))
   unfolding paired seek place
   paired_at [] ms e h = absurd (not-suc-le-zero h)
   paired_at (k ∷ ks) [] e h = absurd (omega arith)
@@ -79,7 +60,7 @@ module _ (key : ℕ) where
       cases (eqb k key) (λ t. rw t) (λ f. rw f (paired_at ks ms i (le_of_suc-le-suc (rw f at h))))
 
   -- a key that is not in the column has no record
-  pub paired_none : (ks : List ℕ) (ms : List Note) → length ks ≤ place (λ x. eqb x key) ks → look_up key (paired ks ms) ≡ none
+  pub paired_none : (ks : List ℕ) (ms : List Note) → length ks ≤ place (λ x. eqb x key) ks → look_up key (paired ks ms) ≡ None
   unfolding paired seek place
   paired_none [] ms h = refl
   paired_none (k ∷ ks) [] h = refl
@@ -103,14 +84,14 @@ module _ (ks : List ℕ) (ms : List Note) (n key at : ℕ) (long : length ks ≡
   records_held = paired_length (take n ks) (take n ms) as_many ∙ keys_held
 
   -- the note at the key's place is the key's
-  pub noted_there : at < n → (r : KeyRecord) × ((look_up key (log_with n ks ms).records ≡ some r) × ((r.content ≡ (record_of 0 (get_or ms at no_note)).content) × (r.answer ≡ (get_or ms at no_note).answer)))
+  pub noted_there : at < n → (r : KeyRecord) × ((look_up key (log_with n ks ms).records ≡ Some r) × ((r.content ≡ (record_of 0 (get_or ms at no_note)).content) × (r.answer ≡ (get_or ms at no_note).answer)))
   noted_there h =
       let there : place (λ x. eqb x key) (take n ks) < length (take n ks) = omega (arith, keys_held) in
       let m : get_or (take n ms) (place (λ x. eqb x key) (take n ks)) no_note ≡ get_or ms at no_note = ap (λ (i : ℕ). get_or (take n ms) i no_note) (sym found) ∙ get_or-take n ms at no_note h in
       (record_of (get_or (take n ks) (place (λ x. eqb x key) (take n ks)) 0) (get_or (take n ms) (place (λ x. eqb x key) (take n ks)) no_note), (paired_at key (take n ks) (take n ms) as_many there, (ap (λ (x : Note). (record_of 0 x).content) m, ap (λ (x : Note). x.answer) m)))
 
   -- a place past the end: the key has no note
-  pub noted_nowhere : n ≤ at → look_up key (log_with n ks ms).records ≡ none
+  pub noted_nowhere : n ≤ at → look_up key (log_with n ks ms).records ≡ None
   noted_nowhere h = paired_none key (take n ks) (take n ms) (omega (arith, keys_held))
 
   -- a key and its note stored behind the others

@@ -3,19 +3,19 @@ use Prim.Native.Nat.{ℕ, ◌+◌, ◌*◌, ◌≤◌}
 use mathlib.Core.Path.{◌≡◌, refl, sym, ap, ◌∙◌}
 use mathlib.Core.Bool.{Bool, true, false, cond, ◌||◌}
 use mathlib.Core.List.{List, [], ◌++◌, map}
-use mathlib.Core.Option.{Option}
+use Rattle.std.specs.Prelude.{Option}
 use native.Mathlib.Omega.{arith}
 use borrow.Author.Tests.{le-ltb, eqb-true}
 use lib.Dec.{eqb, ltb}
 use lib.Ieee.{Float}
 use lib.ListN.{length, take, drop, length-append, length-map}
 use lib.Seq.{take_at}
-use Rattle.base.specs.declared.Checked.{Checked}
-use Rattle.base.specs.declared.Checked.TheVariants.{Passed, Refused}
+use Rattle.std.specs.Prelude.{Result}
+use Rattle.std.specs.Prelude.{Ok, Err}
 use Rattle.base.specs.declared.Refusal.{Refusal}
 use Rattle.base.specs.declared.Refusal.TheVariants.{Clock}
 use Rattle.base.specs.Lists.{any, All}
-use Rattle.base.specs.Refusals.{Outcome, refused, gives, guarded, refusal_number, checked_of}
+use Rattle.base.specs.Refusals.{Outcome, refused, gives, guarded, refusal_number, outcome_of}
 use Rattle.base.proofs.Cases.{cases, never}
 use Rattle.base.proofs.Checks.{guard_refuses, guard_passes, passed_to}
 use Rattle.base.proofs.Loops.{seek_map}
@@ -27,7 +27,7 @@ use Rattle.roster.specs.Roster.{Roster, ratings_check, deviations_check}
 use Rattle.matchmaker.specs.Quality.{MatchState, seated, quality_of}
 use Rattle.objective.specs.declared.score.MatchObjective.{MatchObjective}
 use Rattle.seating.specs.declared.TeamComposition.{TeamComposition}
-use Rattle.seating.specs.declared.Formed.{Formed}
+use Rattle.std.specs.Prelude.{Result, Ok, Err}
 use Rattle.seating.specs.Seating.{Sheets, HandedOut, sizes_over, seats_of, are_short, seats, handed_out, leaving}
 use Rattle.seating.specs.Searching.{search_check}
 use Rattle.seating.proofs.Laws.{length_seats}
@@ -111,15 +111,15 @@ module _ (quality : MatchState → Float) (sheets : Sheets) where
   given_of (gives ms) h = (ms, refl)
 
 -- a search gave v, and left this
-module _ (quality : MatchState → Float) (sheets : Sheets) (each : ℕ) (v : Outcome (List MatchState)) (sized : (ms : List MatchState) → v ≡ gives ms → All (λ m. length (seated m) ≡ each) ms) (f : Formed) {ps : List ℕ} {qs : List Float} (left : leaving f ps qs ≡ handed_out quality v sheets) where
+module _ (quality : MatchState → Float) (sheets : Sheets) (each : ℕ) (v : Outcome (List MatchState)) (sized : (ms : List MatchState) → v ≡ gives ms → All (λ m. length (seated m) ≡ each) ms) (f : Result ℕ Refusal) {ps : List ℕ} {qs : List Float} (left : leaving f ps qs ≡ handed_out quality v sheets) where
   -- the search refuses
-  search_refused : {o : Outcome Found} → o ≡ untried v → (x : Refusal) → f ≡ Formed.Refused x → {r : Handed} → r ≡ refusing x → HandedNumbers quality sheets o r ps qs
+  search_refused : {o : Outcome Found} → o ≡ untried v → (x : Refusal) → f ≡ Err x → {r : Handed} → r ≡ refusing x → HandedNumbers quality sheets o r ps qs
   search_refused {o} found x e {r} g =
       let y = refused_of quality sheets v (rw e at left) in
       let z = handed_refused quality sheets x (found ∙ ap untried y.0) g in
       rw (ap (λ (s : Sheets). s.players) y.1, ap (λ (s : Sheets). s.qualities) y.1) z
 
-  module _ (n : ℕ) (e : f ≡ Formed.Count n) where
+  module _ (n : ℕ) (e : f ≡ Ok n) where
     -- the answer is a number
     told : record { answer = gives n; sheets = record { players = ps; qualities = qs } } ≡ handed_out quality v sheets
     told = rw e at left
@@ -190,12 +190,12 @@ module _ (ws : List Booking) (few : length ws ≤ 64) (g : ℕ) (q : QueueState)
       rw (whole, heard, entries_over (eligible g ws), ← clock_over clock ws)
       (chain (ltb 64 (length (map entry_of (eligible g ws)))) (sizes_over s) (ratings_check r) (are_short (length sheets.players) (length sheets.qualities)) (time_over (clock_among clock ws)) (any has_time_over (eligible g ws)) _ (entries_fit g ws few) (own_over clock ws g))
 
-  module _ (k : Checked) (checked : checked_of k ≡ check) where
+  module _ (k : Result Unit Refusal) (checked : outcome_of k ≡ check) where
     -- the check refuses
-    pub greedy_refused : (x : Refusal) → k ≡ Refused x → {h : Handed} → h ≡ refusing x → Greedy h sheets.players sheets.qualities
+    pub greedy_refused : (x : Refusal) → k ≡ Err x → {h : Handed} → h ≡ refusing x → Greedy h sheets.players sheets.qualities
     greedy_refused x e f = handed_refused quality sheets x (greedy_found ∙ sym (guard_refuses _ k e checked)) f
 
-    module _ (passed : k ≡ Passed) where
+    module _ (passed : k ≡ Ok tt) where
       -- the clock is above 2^53
       pub greedy_clock : time_over at ≡ true → {h : Handed} → h ≡ refusing Clock → Greedy h sheets.players sheets.qualities
       greedy_clock l f = handed_refused quality sheets Clock (greedy_found ∙ sym (guard_passes _ k passed checked) ∙ rw l) f
@@ -213,12 +213,12 @@ module _ (ws : List Booking) (few : length ws ≤ 64) (g : ℕ) (q : QueueState)
           rw (← z) (all_seated s (greedy_matches s r q.entries) (greedy_sized s r q.entries))
 
       -- what the search left
-      module _ (f : Formed) {ps : List ℕ} {qs : List Float} (left : leaving f ps qs ≡ greedy_rule s r q sheets) where
+      module _ (f : Result ℕ Refusal) {ps : List ℕ} {qs : List Float} (left : leaving f ps qs ≡ greedy_rule s r q sheets) where
         -- it refuses
-        pub greedy_search_refused : time_over at ≡ false → (x : Refusal) → f ≡ Formed.Refused x → {h : Handed} → h ≡ refusing x → Greedy h ps qs
+        pub greedy_search_refused : time_over at ≡ false → (x : Refusal) → f ≡ Err x → {h : Handed} → h ≡ refusing x → Greedy h ps qs
         greedy_search_refused l = search_refused quality sheets (seats_of s) searched sized f left (searched_found l)
 
-        module _ (n : ℕ) (e : f ≡ Formed.Count n) where
+        module _ (n : ℕ) (e : f ≡ Ok n) where
           -- the seats stand on the sheet
           pub greedy_fits : n * seats_of s ≤ length ps
           greedy_fits = search_fits quality sheets (seats_of s) searched sized f left n e
@@ -278,12 +278,12 @@ module _ (ws : List Booking) (few : length ws ≤ 64) (g : ℕ) (q : QueueState)
   beam_seated ms e = all_seated s ms (beam_sized (beaming s width objective r q.entries at) q.entries ms (passed_to beam_checked beamed e).1)
 
   -- what the search left
-  module _ (f : Formed) {ps : List ℕ} {qs : List Float} (left : leaving f ps qs ≡ beam_rule s width objective r q at sheets) where
+  module _ (f : Result ℕ Refusal) {ps : List ℕ} {qs : List Float} (left : leaving f ps qs ≡ beam_rule s width objective r q at sheets) where
     -- it refuses
-    pub beam_refused : (x : Refusal) → f ≡ Formed.Refused x → {h : Handed} → h ≡ refusing x → Beam h ps qs
+    pub beam_refused : (x : Refusal) → f ≡ Err x → {h : Handed} → h ≡ refusing x → Beam h ps qs
     beam_refused = search_refused beam_quality sheets (seats_of s) (guarded beam_checked beamed) beam_seated f left beam_found
 
-    module _ (n : ℕ) (e : f ≡ Formed.Count n) where
+    module _ (n : ℕ) (e : f ≡ Ok n) where
       -- the sizes are within their limits
       pub beam_sizes : s.a + s.b ≤ 16
       beam_sizes =

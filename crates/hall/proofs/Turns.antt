@@ -3,7 +3,7 @@ use Prim.Native.Nat.{ℕ, ◌+◌, ◌≤◌, ◌<◌}
 use mathlib.Core.Path.{◌≡◌, refl, sym, ◌∙◌}
 use mathlib.Core.Bool.{Bool, true, false, cond, ◌||◌}
 use mathlib.Core.List.{List, [], ◌∷◌, ◌++◌}
-use mathlib.Core.Option.{Option, none, some}
+use Rattle.std.specs.Prelude.{Option, None, Some}
 use borrow.Author.Tests.{lt-ltb, le-ltb, ltb-true, ltb-false}
 use lib.Dec.{eqb, ltb}
 use lib.ListN.{length, take, get_or, set}
@@ -70,8 +70,8 @@ within k n sizes last told left =
 -- what the record of its key says stops a call
 stops : (h : HallState) (s : Signature) (x : Deal) (t : Bool) (o : Option (Outcome (Unit {0}))) → turn h s x (cond t (known_or o) clash) ≡ record { hall = h; answer = cond t (heard_or o) (refused 7) }
 stops h s x false o = refl
-stops h s x true none = refl
-stops h s x true (some a) = refl
+stops h s x true None = refl
+stops h s x true (Some a) = refl
 
 module _ (bs : List Booking) (k : ℕ) (ks : List ℕ) (ms : List Note) (n : ℕ) (sizes : List TeamComposition) (last key : ℕ) (d : Deed) where
   abbrev state : HallState
@@ -95,7 +95,7 @@ module _ (bs : List Booking) (k : ℕ) (ks : List ℕ) (ms : List Note) (n : ℕ
         (sym (stops state (signed key d) (deal d (take k bs)) (same (record_of 0 m).content (content_of d)) (answer_in m.kind m.answer)))
 
     module _ (new : n ≤ at) where
-      nowhere : look_up key (log_with n ks ms).records ≡ none
+      nowhere : look_up key (log_with n ks ms).records ≡ None
       nowhere = noted_nowhere ks ms n key at long wide fits found new
 
       records : length (log_with n ks ms).records ≡ n

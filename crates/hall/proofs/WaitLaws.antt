@@ -3,15 +3,16 @@ use Prim.Native.Nat.{ℕ, ◌+◌, ◌-◌, ◌≤◌, ◌<◌, min}
 use mathlib.Core.Path.{◌≡◌, refl, sym, ap, ◌∙◌}
 use mathlib.Core.Bool.{Bool, true, false, cond, ◌||◌}
 use mathlib.Core.List.{List, [], ◌∷◌, ◌++◌, map}
+use native.Mathlib.Numerals.{add-one}
 use native.Mathlib.Omega.{arith}
 use lib.Dec.{ltb}
 use lib.ListN.{length, take, drop, get_or, set, length-set, length-take}
-use lib.Seq.{length-take-le}
+use lib.Seq.{append_snoc, drop-cons, length-take-le, take-take}
 use Rattle.base.specs.Lists.{any, keep, place}
 use Rattle.base.proofs.Arrays.{push, first_many, take_held}
 use Rattle.base.proofs.Checks.{neither}
 use Rattle.base.proofs.Every.{any_in, any_from, kept_out}
-use Rattle.base.proofs.Loops.{seek_hit_of, seek_end_of, any_place, gap_closed, removed_none, keep_end_of, count_end_of}
+use Rattle.base.proofs.Loops.{any_place, gap_closed, removed_none, keep_end_of}
 use Rattle.queue.specs.Time.{time_over}
 use Rattle.queue.specs.Queue.{QueueState, holding}
 use Rattle.queue.specs.declared.QueueEntry.{QueueEntry}
@@ -41,33 +42,39 @@ joined bs k b h =
 pub at_most : (bs : List Booking) (n : ℕ) → length bs ≡ 64 → length (take n bs) ≤ 64
 at_most bs n long = omega (arith, length-take n bs)
 
+-- ---- those of a row whom a test keeps, written to the front of another
+
+module _ (p : Booking → Bool) (row out : List Booking) (k i : ℕ) (d : Booking) (inv : take k out ++ keep p (drop i row) ≡ keep p row) (h : i < length row) where
+  -- the booking at i is kept
+  pub keep_on : k < length out → p (get_or row i d) ≡ true → take (k + 1) (set out k (get_or row i d)) ++ keep p (drop (i + 1) row) ≡ keep p row
+  unfolding keep
+  keep_on room e =
+      let next : keep p (drop i row) ≡ get_or row i d ∷ keep p (drop (i + 1) row) = rw (drop-cons row i d h, e, add-one i) in
+      rw (push out k (get_or row i d) room, append_snoc (take k out) (get_or row i d) (keep p (drop (i + 1) row)), ← next) inv
+
+  -- it is not
+  pub keep_skip : p (get_or row i d) ≡ false → take k out ++ keep p (drop (i + 1) row) ≡ keep p row
+  unfolding keep
+  keep_skip e =
+      let next : keep p (drop i row) ≡ keep p (drop (i + 1) row) = rw (drop-cons row i d h, e, add-one i) in
+      rw (← next) inv
+
 -- ---- the first n of an array of 64, of which k are there
 
 module _ (bs : List Booking) (n k : ℕ) (long : length bs ≡ 64) (clamped : k ≡ min n 64) where
   -- the clamped number holds what the stated one holds
-  alike : take k bs ≡ take n bs
+  pub alike : take k bs ≡ take n bs
   alike = ap (λ (m : ℕ). take m bs) clamped ∙ take_held bs n 64 long
 
   -- the queue is filled as far as the bookings go
-  pub queued : (out : List QueueEntry) (i : ℕ) → length out ≡ 64 → k ≤ i → i ≤ k → take i out ≡ map entry_of (take i bs) → ◌≡◌ {A = QueueState} (record { size = k; entries = take k out }) (holding (map entry_of (take n bs)))
-  queued out i room h l inv =
-      let e : i ≡ k = omega arith in
-      stands out k (map entry_of (take n bs)) (omega arith) ((rw e at inv) ∙ ap (map entry_of) alike)
+  pub queued : (out : List QueueEntry) (i : ℕ) → length out ≡ 64 → i ≡ k → take i out ≡ map entry_of (take i (take k bs)) → ◌≡◌ {A = QueueState} (record { size = k; entries = take k out }) (holding (map entry_of (take n bs)))
+  queued out i room e inv =
+      let l : k ≤ k = omega arith in
+      stands out k (map entry_of (take n bs)) (omega arith) ((rw e at inv) ∙ ap (map entry_of) (take-take k k bs l ∙ alike))
 
   -- those who are kept are written as far as the bookings go
   pub kept : (p : Booking → Bool) (out : List Booking) (m i : ℕ) → length out ≡ 64 → m ≤ i → k ≤ i → i ≤ k → take m out ++ keep p (drop i (take k bs)) ≡ keep p (take k bs) → waits_with m out ≡ awaiting (keep p (take n bs))
   kept p out m i room h0 h l inv = stand out m (keep p (take n bs)) (omega arith) (keep_end_of p bs k out m i (omega arith) inv h l ∙ ap (keep p) alike)
-
-  -- and counted
-  pub counted : (p : Booking → Bool) (m i : ℕ) → k ≤ i → i ≤ k → m + length (keep p (drop i (take k bs))) ≡ length (keep p (take k bs)) → m ≡ length (keep p (take n bs))
-  counted p m i h l inv = count_end_of p bs k m i (omega arith) inv h l ∙ ap (λ (ws : List Booking). length (keep p ws)) alike
-
-  -- one was found among them, or none
-  pub found_one : (p : Booking → Bool) (d : Booking) (i : ℕ) → i < k → any p (take k bs) ≡ any p (drop i (take k bs)) → p (get_or bs i d) ≡ true → true ≡ any p (take n bs)
-  found_one p d i h inv e = seek_hit_of p (λ x. true) false bs k i d (omega arith) inv h e ∙ ap (any p) alike
-
-  pub found_none : (p : Booking → Bool) (i : ℕ) → k ≤ i → i ≤ k → any p (take k bs) ≡ any p (drop i (take k bs)) → false ≡ any p (take n bs)
-  found_none p i h l inv = seek_end_of p (λ x. true) false bs k i (omega arith) inv h l ∙ ap (any p) alike
 
   -- the place of the player's first booking
   module _ (at p : ℕ) (found : at ≡ place (booked_by p) (take k bs)) where

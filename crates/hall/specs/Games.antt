@@ -1,6 +1,6 @@
 -- Document 02, 2.4, "Several games under one roof": the sizes of a game, its bookings, and which game's turn it is.
 use Rattle.std.specs.Prelude.{ℕ, ◌+◌, ◌%◌, Bool, not, cond, ◌&&◌, ◌||◌, List, [], ◌∷◌, map, eqb, ltb, leb, length, get_or}
-use Rattle.std.proofs.Math.Option.{Option, none, some}
+use Rattle.std.specs.Prelude.{Option, None, Some}
 use Rattle.base.specs.Lists.{seek, any, keep}
 use Rattle.seating.specs.declared.TeamComposition.{TeamComposition}
 use Rattle.seating.specs.Seating.{sizes_over, seats_of}
@@ -26,12 +26,12 @@ eligible g = keep (λ b. eqb b.game g)
 
 -- where there is no game, nobody has a seat and nobody may be seated
 abbrev pub sizes_by : List TeamComposition → Option ℕ → TeamComposition
-sizes_by sizes none = unused
-sizes_by sizes (some g) = sizes_for sizes g
+sizes_by sizes None = unused
+sizes_by sizes (Some g) = sizes_for sizes g
 
 abbrev pub eligible_by : Option ℕ → List Booking → List Booking
-eligible_by none ws = []
-eligible_by (some g) ws = eligible g ws
+eligible_by None ws = []
+eligible_by (Some g) ws = eligible g ws
 
 -- ---- the last game served
 
@@ -41,7 +41,7 @@ no_game = 255
 
 -- the game that a number stands for, if it is not that one
 abbrev pub game_in : ℕ → Option ℕ
-game_in n = cond (eqb n no_game) none (some n)
+game_in n = cond (eqb n no_game) None (Some n)
 
 -- "a last game served neither 0 to 7 nor none"
 abbrev pub no_last_game : ℕ → Bool
@@ -70,4 +70,4 @@ circle last = map (turn_at last) (1 ∷ 2 ∷ 3 ∷ 4 ∷ 5 ∷ 6 ∷ 7 ∷ 8 �
 
 -- "the next game in circular order": the first of them that is ready, if one is
 abbrev pub next_game : (ℕ → Bool) → ℕ → Option ℕ
-next_game ready last = seek ready some none (circle last)
+next_game ready last = seek ready Some None (circle last)

@@ -1,7 +1,7 @@
 -- Document 01, "Hall (added)", with the games of document 02, 2.4, and the keys of 2.5: who waits, the key book, and what a booking or a
 -- withdrawal does.
 use Rattle.std.specs.Prelude.{ℕ, Bool, not, cond, ◌&&◌, ◌||◌, List, [], ◌∷◌, ◌++◌, eqb, ltb, length, take}
-use Rattle.std.proofs.Math.Option.{Option, none, some}
+use Rattle.std.specs.Prelude.{Option, None, Some}
 use Rattle.std.specs.Float.{binary64}
 use Rattle.std.specs.Float.Ieee.{of_bits}
 use Rattle.base.specs.Refusals.{Outcome, refused, gives}
@@ -202,10 +202,10 @@ signed k d = record { key = k; content = content_of d }
 -- the answer that a number stands for in a record of this kind, if it is one that such a call can get noted
 unfoldable pub answer_in : ℕ → ℕ → Option (Outcome (Unit {0}))
 answer_in kind n =
-    cond (eqb n 0) (some (gives tt))
+    cond (eqb n 0) (Some (gives tt))
     (cond (eqb (call_kind kind) 0)
-    (cond (eqb n 4 || (eqb n 9 || (eqb n 10 || eqb n 13))) (some (refused n)) none)
-    (cond (eqb kind 1 && eqb n 11) (some (refused n)) none))
+    (cond (eqb n 4 || (eqb n 9 || (eqb n 10 || eqb n 13))) (Some (refused n)) None)
+    (cond (eqb kind 1 && eqb n 11) (Some (refused n)) None))
 
 -- the record of a call that got this answer
 abbrev pub recorded : Signature → Outcome (Unit {0}) → KeyRecord
@@ -213,7 +213,7 @@ recorded s a = record { key = s.key; content = s.content; answer = refusal_of a 
 
 -- the record of a key, if there is one
 abbrev pub look_up : ℕ → List KeyRecord → Option KeyRecord
-look_up k = seek (λ r. eqb r.key k) some none
+look_up k = seek (λ r. eqb r.key k) Some None
 
 -- what the key book says to a call: the noted answer, to the same call; refusal 7 to "anything else under that key"; 8; or its key is new
 pub data Judgement : Type 0 where
@@ -223,12 +223,12 @@ pub data Judgement : Type 0 where
   fresh : Judgement
 
 abbrev pub known_or : Option (Outcome (Unit {0})) → Judgement
-known_or none = clash
-known_or (some a) = known a
+known_or None = clash
+known_or (Some a) = known a
 
 abbrev pub judge_by : ℕ → Signature → Option KeyRecord → Judgement
-judge_by n s none = cond (ltb n 1024) fresh full
-judge_by n s (some r) = cond (same r.content s.content) (known_or (answer_in r.content.kind r.answer)) clash
+judge_by n s None = cond (ltb n 1024) fresh full
+judge_by n s (Some r) = cond (same r.content s.content) (known_or (answer_in r.content.kind r.answer)) clash
 
 unfoldable pub judge : List KeyRecord → Signature → Judgement
 judge rs s = judge_by (length rs) s (look_up s.key rs)

@@ -1,6 +1,6 @@
 -- Document 01, "Hall (added)": the greedy, the beam and the full round; by game, and the dispatch, of document 02, 2.4.
 use Rattle.std.specs.Prelude.{ℕ, ◌≡◌, Bool, false, cond, ◌||◌, List, [], ◌∷◌, ◌++◌, map, ltb, Float, length}
-use Rattle.std.proofs.Math.Option.{Option, none, some, get_or}
+use Rattle.std.specs.Prelude.{Option, None, Some, unwrap_or}
 use Rattle.std.specs.Float.Ieee.{lt}
 use Rattle.base.specs.Floats as Floats
 use Rattle.base.specs.Refusals.{Outcome, refused, gives, guarded}
@@ -69,8 +69,8 @@ untried (refused n) = refused n
 untried (gives ms) = gives (record { matches = ms; tried = 0 })
 
 abbrev pub list_of : Option MatchState → List MatchState
-list_of none = []
-list_of (some m) = m ∷ []
+list_of None = []
+list_of (Some m) = m ∷ []
 
 abbrev pub selected : Outcome Selection → Outcome Found
 selected (refused n) = refused n
@@ -107,12 +107,12 @@ ready h = enough h.sizes h.waiting.bookings
 
 -- the game that a round serves where it is not refused: "Served means that a dispatch ran its round"
 abbrev pub served_by : HallState → Round → Option ℕ
-served_by h (of_game g m) = none
+served_by h (of_game g m) = None
 served_by h (dispatch r) = next_game (ready h) h.served
 
 -- the game that a round plays: the one that it names, or the one that it serves
 abbrev pub game_by : Round → Option ℕ → Option ℕ
-game_by (of_game g m) served = some g
+game_by (of_game g m) served = Some g
 game_by (dispatch r) served = served
 
 abbrev pub game_of : HallState → RoundCall → Option ℕ
@@ -167,7 +167,7 @@ tried_in (refused n) = 0
 tried_in (gives f) = f.tried
 
 abbrev pub served_in : Option ℕ → Outcome Found → Option ℕ
-served_in served (refused n) = none
+served_in served (refused n) = None
 served_in served (gives f) = served
 
 -- "Seated guests leave by remove_batch", with every booking of theirs, of whatever game. The game served is the last one served; where none
@@ -179,7 +179,7 @@ departing h served (gives f) =
       waiting = awaiting (without_guests (seats f.matches) h.waiting.bookings);
       log = h.log;
       sizes = h.sizes;
-      served = get_or served h.served;
+      served = unwrap_or served h.served;
     }
 
 -- the turn of a round that found this

@@ -1,6 +1,6 @@
 -- What the code computes on its way.
 use Rattle.std.specs.Prelude.{ℕ, ◌≤◌, ◌≡◌, cond, List, map, Float, length, take}
-use Rattle.std.proofs.Math.Option.{Option, none, some}
+use Rattle.std.specs.Prelude.{Option, None, Some}
 use Rattle.base.specs.Refusals.{Outcome, refused, gives}
 use Rattle.base.specs.Lists.{any}
 use Rattle.base.specs.Numbers.{outcome_in}
@@ -19,8 +19,8 @@ use Rattle.hall.specs.declared.rounds.Handed.{Handed}
 
 -- the answer that was noted, 7 where the number stands for none
 abbrev pub heard_or : Option (Outcome (Unit {0})) → Outcome (Unit {0})
-heard_or none = refused 7
-heard_or (some a) = a
+heard_or None = refused 7
+heard_or (Some a) = a
 
 -- what a note says to a call with its key
 abbrev pub heard_from : Note → Content → Outcome (Unit {0})

@@ -1,6 +1,6 @@
 // The games under one roof: which sizes they have, and whose turn it is when a table is dispatched.
 ghost use Rattle.std.specs.Prelude.{◌≡◌, take};
-ghost use Rattle.std.proofs.Math.Option.{get_or};
+ghost use Rattle.std.specs.Prelude.{unwrap_or};
 ghost use Rattle.base.specs.Lists.{any};
 ghost use Rattle.base.specs.Numbers.{value_or, outcome_in};
 ghost use Rattle.seating.specs.Seating.{sizes_over};
@@ -13,15 +13,7 @@ use seating::TeamComposition;
 fn any_over(sizes: [TeamComposition; 8]) -> bool
     ensures { result ≡ any sizes_over sizes }
 {
-    let mut g: usize = 0;
-    while g < 8 {
-        let game = sizes[g];
-        if game.is_over() {
-            return true;
-        }
-        g += 1;
-    }
-    false
+    sizes.iter().any(|game| game.is_over())
 }
 
 // Is one of the sizes over 8, or the last game served neither 0 to 7 nor none?
@@ -75,13 +67,11 @@ fn has_enough(bookings: [Booking; 64], n: usize, sizes: [TeamComposition; 8], ga
 pub fn next(bookings: [Booking; 64], n: usize, sizes: [TeamComposition; 8], last: u8) -> u8
     ensures { game_in result ≡ next_game (enough sizes (take n bookings)) last }
 {
-    let mut i: u8 = 0;
-    while i < 8 {
+    for i in 0..8 {
         let game = (last % 8 + 1 + i) % 8;
         if has_enough(bookings, n, sizes, game) {
             return game;
         }
-        i += 1;
     }
     255
 }
@@ -98,7 +88,7 @@ pub fn served(game: u8, refusal: u8) -> u8
 
 // The last game served, when this one was, or none.
 pub fn last_served(last: u8, served: u8) -> u8
-    ensures { result ≡ get_or (game_in served) last }
+    ensures { result ≡ unwrap_or (game_in served) last }
 {
     if served == 255 {
         return last;

@@ -11,17 +11,8 @@ use crate::{Booking, Note};
 pub fn place_of(keys: &[u64], n: usize, key: u64) -> usize
     ensures { result ≡ place (λ x. eqb x key) (take n keys.now) }
 {
-    let mut i: usize = 0;
-    while i < n {
-        if keys.len() <= i {
-            return i;
-        }
-        if keys[i] == key {
-            return i;
-        }
-        i += 1;
-    }
-    i
+    let book = &keys[..base::at_most(n, keys.len())];
+    book.iter().position(|k| *k == key).unwrap_or(book.len())
 }
 
 // The answer that was noted of a booking, and 7 where the number stands for none.
@@ -129,7 +120,7 @@ pub fn booking_note(booking: Booking, answer: u8) -> Note
         role: booking.role,
         game: booking.game,
         kind: 0,
-        answer: answer,
+        answer,
     }
 }
 
@@ -138,13 +129,13 @@ pub fn withdrawal_note(player: u64, answer: u8) -> Note
     ensures { result ≡ note_with (content_of (withdraw player)) answer }
 {
     Note {
-        player: player,
+        player,
         joined: 0,
         rating_bits: 0,
         party: 0,
         role: 0,
         game: 0,
         kind: 1,
-        answer: answer,
+        answer,
     }
 }

@@ -1,22 +1,21 @@
 // The greedy, the beam and the full round: a search or the best choice among those of the first bookings of an array that are of a game.
 ghost use Rattle.std.specs.Prelude.{◌≡◌, ◌≤◌, length, take};
 ghost use Rattle.base.specs.Floats as Floats;
-ghost use Rattle.base.specs.Refusals.{guarded, refusal_number, checked_of};
-ghost use Rattle.base.specs.declared.Checked.TheVariants.{Refused};
+ghost use Rattle.base.specs.Refusals.{Outcome, refused, guarded, refusal_number, outcome_of};
 ghost use Rattle.roster.specs.Roster.{of_ratings, of_deviations, of_rules};
 ghost use Rattle.choice.specs.Full.{terms, terms_check, choice_of};
 ghost use Rattle.hall.specs.Rounds.{greedy, beam, full, selected};
 ghost use Rattle.hall.specs.Steps.{sheets_and_clock_check, HandedNumbers, FoundNumbers};
 
 use crate::{Booking, waiting};
-use base::{Checked, Refusal};
+use base::Refusal;
 use beam::BeamSearch;
-use choice::{Choice, Decision};
+use choice::Choice;
 use constraint::Constraints;
 use greedy::GreedySearch;
 use objective::score::MatchObjective;
 use objective::soft::SoftObjective;
-use seating::{Formed, TeamComposition};
+use seating::TeamComposition;
 
 // What a round gives besides the hall: its matches, the places that they take on the players' sheet, and the choices that it tried.
 // All are 0 where it is refused.
@@ -56,7 +55,7 @@ pub fn greedy_handed(
     ensures { FoundNumbers (greedy (of_ratings ids.now ratings.now)) clock (record { players = players.entry.now; qualities = qualities.old }) sizes game (take n bookings) result players.exit.now qualities.new }
 {
     let queue = waiting::eligible(bookings, n, game);
-    if let Checked::Refused(refusal) = seating::searching::check(
+    if let Err(refusal) = seating::searching::check(
         queue,
         sizes,
         ids,
@@ -72,12 +71,12 @@ pub fn greedy_handed(
     let each = sizes.a + sizes.b;
     let formed = GreedySearch::search(queue, sizes, ids, ratings, players, qualities);
     match formed {
-        Formed::Refused(refusal) => refuses(refusal),
-        Formed::Count(count) => {
+        Err(refusal) => refuses(refusal),
+        Ok(count) => {
             let seats = count * each;
             Handed {
-                count: count,
-                seats: seats,
+                count,
+                seats,
                 tried: 0,
                 refusal: 0,
             }
@@ -117,12 +116,12 @@ pub fn beam_handed(
         qualities,
     );
     match formed {
-        Formed::Refused(refusal) => refuses(refusal),
-        Formed::Count(count) => {
+        Err(refusal) => refuses(refusal),
+        Ok(count) => {
             let seats = count * (sizes.a + sizes.b);
             Handed {
-                count: count,
-                seats: seats,
+                count,
+                seats,
                 tried: 0,
                 refusal: 0,
             }
@@ -133,16 +132,16 @@ pub fn beam_handed(
 // ---- the full round
 
 // Refusal 3 of a full round, and 4 of its clock.
-fn check_sheets_and_clock(clock: u64, players: usize, qualities: usize) -> Checked
-    ensures { checked_of result ≡ sheets_and_clock_check clock players qualities }
+fn check_sheets_and_clock(clock: u64, players: usize, qualities: usize) -> Result<(), Refusal>
+    ensures { outcome_of result ≡ sheets_and_clock_check clock players qualities }
 {
     if seating::are_short(players, qualities) {
-        return Checked::Refused(Refusal::ShortSheet);
+        return Err(Refusal::ShortSheet);
     }
     if queue::time::is_over(clock) {
-        return Checked::Refused(Refusal::Clock);
+        return Err(Refusal::Clock);
     }
-    Checked::Passed
+    Ok(())
 }
 
 // The refusal of a full round that is refused anyway: that of its terms, or else the one behind it.
@@ -157,9 +156,9 @@ fn first_refusal(
     roles: &[u32],
     regions: &[u8],
 ) -> Refusal
-    ensures { checked_of (Refused result) ≡ guarded (terms_check (of_rules ids.now ratings.now parties.now roles.now regions.now) constraints count sizes) (checked_of (Refused behind)) }
+    ensures { ◌≡◌ {A = Outcome Unit} (refused (refusal_number result)) (guarded (terms_check (of_rules ids.now ratings.now parties.now roles.now regions.now) constraints count sizes) (refused (refusal_number behind))) }
 {
-    if let Checked::Refused(refusal) = choice::check_terms(
+    if let Err(refusal) = choice::check_terms(
         sizes,
         constraints,
         count,
@@ -175,32 +174,33 @@ fn first_refusal(
 }
 
 // The choice on the sheets, if there is one.
-fn choice_handed(choice: Choice, players: &mut [u64], qualities: &mut [f64]) -> Handed
+fn choice_handed(
+    choice: Result<Choice, Refusal>,
+    players: &mut [u64],
+    qualities: &mut [f64],
+) -> Handed
     requires { (16 ≤ length players.old) × (1 ≤ length qualities.old) }
     ensures { HandedNumbers (λ m. Floats.zero) (record { players = players.entry.now; qualities = qualities.old }) (selected (choice_of choice)) result players.exit.now qualities.new }
 {
-    let decision = choice.decision;
-    let teams = choice.teams;
-    let tried = choice.tried;
-    match decision {
-        Decision::Refused(refusal) => refuses(refusal),
-        Decision::Nothing => Handed {
+    let chosen = match choice {
+        Err(refusal) => return refuses(refusal),
+        Ok(chosen) => chosen,
+    };
+    let Some(teams) = chosen.best else {
+        return Handed {
             count: 0,
             seats: 0,
-            tried: tried,
+            tried: chosen.tried,
             refusal: 0,
-        },
-        Decision::Chosen => {
-            let places = teams.seats();
-            seating::write_match(teams, players);
-            qualities[0] = 0.0;
-            Handed {
-                count: 1,
-                seats: places,
-                tried: tried,
-                refusal: 0,
-            }
-        }
+        };
+    };
+    seating::write_match(teams, players);
+    qualities[0] = 0.0;
+    Handed {
+        count: 1,
+        seats: teams.seats(),
+        tried: chosen.tried,
+        refusal: 0,
     }
 }
 
@@ -228,7 +228,7 @@ pub fn full_handed(
     // The choice has refusals 1 and 2 by itself. Only a round that is refused anyway looks for them before.
     let at = waiting::clock_among(bookings, n, clock);
     let checked = check_sheets_and_clock(at, players.len(), qualities.len());
-    if let Checked::Refused(behind) = checked {
+    if let Err(behind) = checked {
         return refuses(first_refusal(
             behind,
             sizes,

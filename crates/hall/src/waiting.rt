@@ -31,20 +31,14 @@ impl Booking {
     }
 }
 
-// The place of the player's first booking among the first n, or n.
-fn place_of(bookings: [Booking; 64], n: usize, player: u64) -> usize
-    requires { n ≤ 64 }
-    ensures { result ≡ place (booked_by player) (take n bookings) }
+// The place of the player's first booking, or how many bookings there are.
+fn place_of(bookings: &[Booking], player: u64) -> usize
+    ensures { result ≡ place (booked_by player) bookings.now }
 {
-    let mut i: usize = 0;
-    while i < n {
-        let booking = bookings[i];
-        if booking.player == player {
-            return i;
-        }
-        i += 1;
-    }
-    i
+    bookings
+        .iter()
+        .position(|booking| booking.player == player)
+        .unwrap_or(bookings.len())
 }
 
 // The first n bookings without the one at `at`, moved up by one.
@@ -53,11 +47,7 @@ fn closed_up(bookings: [Booking; 64], n: usize, at: usize) -> [Booking; 64]
     ensures { take (n - 1) result ≡ take at (take n bookings) ++ drop (at + 1) (take n bookings) }
 {
     let mut out = bookings;
-    let mut k = at;
-    while k + 1 < n {
-        out[k] = bookings[k + 1];
-        k += 1;
-    }
+    out.copy_within(at + 1..n, at);
     out
 }
 
@@ -66,7 +56,7 @@ pub fn waits(bookings: [Booking; 64], n: usize, player: u64) -> bool
     ensures { result ≡ any (booked_by player) (take n bookings) }
 {
     let k = base::at_most(n, 64);
-    place_of(bookings, k, player) < k
+    place_of(&bookings[..k], player) < k
 }
 
 // The first n bookings without the first one of the player.
@@ -74,10 +64,10 @@ pub fn without_first(bookings: [Booking; 64], n: usize, player: u64) -> Staying
     ensures { waits_with result.waiting result.bookings ≡ awaiting (without_guest player (take n bookings)) }
 {
     let k = base::at_most(n, 64);
-    let at = place_of(bookings, k, player);
+    let at = place_of(&bookings[..k], player);
     if k <= at {
         return Staying {
-            bookings: bookings,
+            bookings,
             waiting: k,
         };
     }
@@ -93,15 +83,10 @@ pub fn without_first(bookings: [Booking; 64], n: usize, player: u64) -> Staying
 fn is_seated(players: &[u64], seats: usize, player: u64) -> bool
     ensures { result ≡ member player (take seats players.now) }
 {
-    let mut i: usize = 0;
-    while i < seats {
-        if players.len() <= i {
-            return false;
-        }
-        if players[i] == player {
+    for seated in &players[..base::at_most(seats, players.len())] {
+        if *seated == player {
             return true;
         }
-        i += 1;
     }
     false
 }
@@ -113,15 +98,10 @@ pub fn without_seated(bookings: [Booking; 64], n: usize, players: &[u64], seats:
     let k = base::at_most(n, 64);
     let mut stay = bookings;
     let mut m: usize = 0;
-    let mut i: usize = 0;
-    while i < k {
-        let booking = bookings[i];
-        if is_seated(players, seats, booking.player) {
-            i += 1;
-        } else {
-            stay[m] = booking;
+    for booking in &bookings[..k] {
+        if !is_seated(players, seats, booking.player) {
+            stay[m] = *booking;
             m += 1;
-            i += 1;
         }
     }
     Staying {
@@ -137,18 +117,10 @@ pub fn count(bookings: [Booking; 64], n: usize, game: u8) -> usize
     ensures { result ≡ length (eligible game (take n bookings)) }
 {
     let k = base::at_most(n, 64);
-    let mut m: usize = 0;
-    let mut i: usize = 0;
-    while i < k {
-        let booking = bookings[i];
-        if booking.game == game {
-            m += 1;
-            i += 1;
-        } else {
-            i += 1;
-        }
-    }
-    m
+    bookings[..k]
+        .iter()
+        .filter(|booking| booking.game == game)
+        .count()
 }
 
 // The bookings of the game among the first n.
@@ -158,15 +130,10 @@ fn of_game(bookings: [Booking; 64], n: usize, game: u8) -> Staying
     let k = base::at_most(n, 64);
     let mut own = bookings;
     let mut found: usize = 0;
-    let mut i: usize = 0;
-    while i < k {
-        let booking = bookings[i];
-        if booking.game != game {
-            i += 1;
-        } else {
-            own[found] = booking;
+    for booking in &bookings[..k] {
+        if booking.game == game {
+            own[found] = *booking;
             found += 1;
-            i += 1;
         }
     }
     Staying {
@@ -181,11 +148,8 @@ fn queue_of(bookings: [Booking; 64], n: usize) -> Queue
 {
     let k = base::at_most(n, 64);
     let mut queue = Queue::empty();
-    let mut i: usize = 0;
-    while i < k {
-        let booking = bookings[i];
+    for (i, booking) in bookings[..k].iter().enumerate() {
         queue.entries[i] = booking.entry();
-        i += 1;
     }
     queue.len = k;
     queue
@@ -205,15 +169,9 @@ fn has_time_over(bookings: [Booking; 64], n: usize) -> bool
     ensures { result ≡ any has_time_over (take n bookings) }
 {
     let k = base::at_most(n, 64);
-    let mut i: usize = 0;
-    while i < k {
-        let booking = bookings[i];
-        if queue::time::is_over(booking.joined) {
-            return true;
-        }
-        i += 1;
-    }
-    false
+    bookings[..k]
+        .iter()
+        .any(|booking| queue::time::is_over(booking.joined))
 }
 
 // The clock that a round is checked by: one above 2^53 where a time is, of whatever game, since a search sees only its own game's.

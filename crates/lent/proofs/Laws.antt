@@ -2,7 +2,7 @@
 use Prim.Native.Nat.{ℕ, ◌≤◌}
 use mathlib.Core.Path.{◌≡◌, refl, ap}
 use mathlib.Core.List.{List, [], ◌∷◌, foldl}
-use mathlib.Core.Option.{Option, none, some}
+use Rattle.std.specs.Prelude.{Option, None, Some}
 use mathlib.Core.Bool.{cond}
 use native.Mathlib.Omega.{arith}
 use native.Mathlib.Nat.{le_refl}
@@ -25,13 +25,13 @@ read_refused p now n [] = refl
 read_refused p now n (e ∷ es) = read_refused p now n es
 
 -- behind a known wait only entries whose time is over count
-read_known : (p now t : ℕ) (es : List QueueEntry) → foldl (read p now) (gives (some t)) es ≡ cond (any joined_over es) (refused 4) (gives (some t))
+read_known : (p now t : ℕ) (es : List QueueEntry) → foldl (read p now) (gives (Some t)) es ≡ cond (any joined_over es) (refused 4) (gives (Some t))
 unfolding seek
 read_known p now t [] = refl
 read_known p now t (e ∷ es) = cases (joined_over e) (λ y. rw y (read_refused p now 4 es)) (λ f. rw f (read_known p now t es))
 
 -- until then it is the first entry of the player that counts
-read_unknown : (p now : ℕ) (es : List QueueEntry) → foldl (read p now) (gives none) es ≡ cond (any joined_over es) (refused 4) (gives (first_wait p now es))
+read_unknown : (p now : ℕ) (es : List QueueEntry) → foldl (read p now) (gives None) es ≡ cond (any joined_over es) (refused 4) (gives (first_wait p now es))
 unfolding seek
 read_unknown p now [] = refl
 read_unknown p now (e ∷ es) =

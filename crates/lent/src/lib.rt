@@ -2,7 +2,8 @@
 #![tactic(auto)]
 
 ghost use Rattle.std.specs.Prelude.{◌≡◌};
-ghost use Rattle.queue.specs.Queue.{wait_of, wait_rule, holding};
+ghost use Rattle.base.specs.Refusals.{outcome_of};
+ghost use Rattle.queue.specs.Queue.{wait_rule, holding};
 ghost use Rattle.hall.specs.Hall.{hall_of, keyed_rule, book};
 ghost use Rattle.lent.specs.Reading.{readable, before_reading, entry_wait, followed, read};
 ghost use Rattle.lent.specs.Lent.{lent_turn};
@@ -10,7 +11,7 @@ ghost use Rattle.lent.specs.Lent.{lent_turn};
 use base::Refusal;
 use capi::halls::{Keyed, yilgashe_hall_book};
 use hall::{Booking, Hall};
-use queue::{QueueEntry, Wait};
+use queue::QueueEntry;
 
 // How many entries are read: none of a list over 64.
 fn readable(count: usize) -> usize
@@ -23,63 +24,66 @@ fn readable(count: usize) -> usize
 }
 
 // The answer before an entry is read.
-fn before_reading(len: usize, clock: u64) -> Wait
-    ensures { wait_of result ≡ before_reading len clock }
+fn before_reading(len: usize, clock: u64) -> Result<Option<u64>, Refusal>
+    ensures { outcome_of result ≡ before_reading len clock }
 {
     if 64 < len {
-        return Wait::Refused(Refusal::OverLimit);
+        return Err(Refusal::OverLimit);
     }
     if queue::time::is_over(clock) {
-        return Wait::Refused(Refusal::Clock);
+        return Err(Refusal::Clock);
     }
-    Wait::Nobody
+    Ok(None)
 }
 
 // The answer of one entry alone.
-fn entry_wait(entry: QueueEntry, player: u64, clock: u64) -> Wait
-    ensures { wait_of result ≡ entry_wait player clock entry }
+fn entry_wait(entry: QueueEntry, player: u64, clock: u64) -> Result<Option<u64>, Refusal>
+    ensures { outcome_of result ≡ entry_wait player clock entry }
 {
     if queue::time::is_over(entry.joined) {
-        return Wait::Refused(Refusal::Clock);
+        return Err(Refusal::Clock);
     }
     if entry.player == player {
-        return Wait::Of(queue::time::elapsed(clock, entry.joined));
+        return Ok(Some(queue::time::elapsed(clock, entry.joined)));
     }
-    Wait::Nobody
+    Ok(None)
 }
 
 // An answer and the next one: a refusal stays, and a wait stays unless a refusal comes.
-fn followed(before: Wait, next: Wait) -> Wait
-    ensures { wait_of result ≡ followed (wait_of before) (wait_of next) }
+fn followed(
+    before: Result<Option<u64>, Refusal>,
+    next: Result<Option<u64>, Refusal>,
+) -> Result<Option<u64>, Refusal>
+    ensures { outcome_of result ≡ followed (outcome_of before) (outcome_of next) }
 {
-    match before {
-        Wait::Refused(_) => before,
-        Wait::Nobody => next,
-        Wait::Of(_) => match next {
-            Wait::Refused(_) => next,
-            Wait::Nobody => before,
-            Wait::Of(_) => before,
-        },
+    match (before, next) {
+        (Err(_), _) => before,
+        (Ok(None), _) => next,
+        (Ok(Some(_)), Err(_)) => next,
+        (Ok(Some(_)), Ok(_)) => before,
     }
 }
 
 // The answer when one more entry is read.
-fn read(wait: Wait, entry: QueueEntry, player: u64, clock: u64) -> Wait
-    ensures { wait_of result ≡ read player clock (wait_of wait) entry }
+fn read(
+    wait: Result<Option<u64>, Refusal>,
+    entry: QueueEntry,
+    player: u64,
+    clock: u64,
+) -> Result<Option<u64>, Refusal>
+    ensures { outcome_of result ≡ read player clock (outcome_of wait) entry }
 {
     followed(wait, entry_wait(entry, player, clock))
 }
 
 // How long the player has waited, by the first entry of a list that is lent.
-pub fn waiting_time(queue: &[QueueEntry], player: u64, clock: u64) -> Wait
-    ensures { wait_of result ≡ wait_rule (holding queue.now) player clock }
+pub fn waiting_time(queue: &[QueueEntry], player: u64, clock: u64) -> Result<Option<u64>, Refusal>
+    ensures { outcome_of result ≡ wait_rule (holding queue.now) player clock }
 {
     let n = readable(queue.len());
     let mut wait = before_reading(queue.len(), clock);
-    let mut i: usize = 0;
-    while i < n {
-        wait = read(wait, queue[i], player, clock);
-        i += 1;
+    for entry in &queue[..n] {
+        wait = read(wait, *entry, player, clock);
     }
     wait
 }

@@ -4,11 +4,12 @@ use lib.Ieee.{Float, nan, inf, fin, binary64, low, prec, emax, up, down, lt, le,
 use lib.Ieee.Fits.{down_pos, round_is}
 use lib.Ieee.Order.{round_mono}
 use Rattle.base.specs.Floats as F
-use Rattle.base.specs.Refusals.{Outcome, refused, gives, guarded}
+use Rattle.base.specs.Refusals.{Outcome, refused, gives, guarded, outcome_of}
 use Rattle.base.proofs.Cases.{never}
 use Rattle.roster.specs.Roster.{Roster, ratings_check}
-use Rattle.matchmaker.specs.declared.Quality.{Quality}
-use Rattle.matchmaker.specs.Quality.{MatchState, Bounded, overfull, quality_at, quality_given, quality_rule, QualityPromise}
+use Rattle.std.specs.Prelude.{Result}
+use Rattle.base.specs.declared.Refusal.{Refusal}
+use Rattle.matchmaker.specs.Quality.{MatchState, Bounded, overfull, quality_at, quality_rule, QualityPromise}
 
 -- neither NaN nor with a sign
 abbrev pub Unsigned : Float → Type 0
@@ -89,5 +90,5 @@ pub rule_bounded : (r : Roster) (m : MatchState) (x : Float) → quality_rule r 
 rule_bounded r m x e = ruled_bounded (overfull m) (ratings_check r) _ x e
 
 -- so an answer by the rule is all that is promised
-pub promised : (r : Roster) (m : MatchState) (q : Quality) → quality_given q ≡ quality_rule r m → QualityPromise r m q
+pub promised : (r : Roster) (m : MatchState) (q : Result Float Refusal) → outcome_of q ≡ quality_rule r m → QualityPromise r m q
 promised r m q e = record { answer = e; bounded = λ x h. rule_bounded r m x (sym e ∙ h) }

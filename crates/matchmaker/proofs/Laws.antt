@@ -1,11 +1,11 @@
 -- The laws of teams, of sums over teams, and of the answers of `match_quality`.
 use Rattle.std.proofs.Common.{◌≡◌, ℕ, max, true, false, List, [], ◌∷◌, ◌++◌, pos, sym, refl, ap, ◌∙◌}
 use mathlib.Core.List.{foldl}
-use mathlib.Core.Option.{Option, none, some}
+use Rattle.std.specs.Prelude.{Option, None, Some}
 use lib.Ieee.{Float, binary64, add, div, of_int}
-use Rattle.base.specs.Refusals.{refused, gives, refusal_number, checked_of}
-use Rattle.base.specs.declared.Checked.{Checked}
-use Rattle.base.specs.declared.Checked.TheVariants.{Passed, Refused}
+use Rattle.base.specs.Refusals.{refused, gives, refusal_number, outcome_of}
+use Rattle.std.specs.Prelude.{Result}
+use Rattle.std.specs.Prelude.{Ok, Err}
 use Rattle.base.specs.declared.Refusal.{Refusal}
 use Rattle.base.proofs.Checks.{guard_refuses, guard_passes}
 use Rattle.base.proofs.Loops.{fold_append}
@@ -18,8 +18,8 @@ use Rattle.matchmaker.specs.Steps.{absorb}
 module _ {A B : Type 0} (f : B → A → B) where
   -- an observation taken in before the others
   absorb_first : (b : B) (o : Option A) (xs : List A) → foldl f (absorb f b o) xs ≡ foldl f b (cons_some o xs)
-  absorb_first b none xs = refl
-  absorb_first b (some x) xs = refl
+  absorb_first b None xs = refl
+  absorb_first b (Some x) xs = refl
 
   -- taking in what is observed of each player in turn is folding the observations
   pub fold_observations : (g : ℕ → Option A) (b : B) (ps : List ℕ) → foldl (λ b p. absorb f b (g p)) b ps ≡ foldl f b (observations g ps)
@@ -29,8 +29,8 @@ module _ {A B : Type 0} (f : B → A → B) where
 
 module _ {A : Type 0} (g : ℕ → Option A) where
   cons_some_append : (o : Option A) (xs ys : List A) → cons_some o (xs ++ ys) ≡ cons_some o xs ++ ys
-  cons_some_append none xs ys = refl
-  cons_some_append (some x) xs ys = refl
+  cons_some_append None xs ys = refl
+  cons_some_append (Some x) xs ys = refl
 
   -- what is observed of two rows of players is what is observed of the first, then of the second
   pub observations_append : (ps qs : List ℕ) → observations g (ps ++ qs) ≡ observations g ps ++ observations g qs
@@ -62,11 +62,11 @@ module _ (r : Roster) (m : MatchState) where
   over_limit o = rw o
 
   -- what the roster's check refuses, by its number
-  pub bad_roster : overfull m ≡ false → (k : Checked) {x : Refusal} → k ≡ Refused x → checked_of k ≡ ratings_check r → refused (refusal_number x) ≡ quality_rule r m
+  pub bad_roster : overfull m ≡ false → (k : Result Unit Refusal) {x : Refusal} → k ≡ Err x → outcome_of k ≡ ratings_check r → refused (refusal_number x) ≡ quality_rule r m
   bad_roster o k e h = rw o (guard_refuses _ k e h)
 
   -- else the quality
-  pub rated : overfull m ≡ false → (k : Checked) → k ≡ Passed → checked_of k ≡ ratings_check r → {q : Float} → q ≡ quality_of r m.a.players m.b.players → gives q ≡ quality_rule r m
+  pub rated : overfull m ≡ false → (k : Result Unit Refusal) → k ≡ Ok tt → outcome_of k ≡ ratings_check r → {q : Float} → q ≡ quality_of r m.a.players m.b.players → gives q ≡ quality_rule r m
   rated o k e h q = rw o (ap gives q ∙ guard_passes _ k e h)
 
 -- the quality depends on the ids and the ratings alone: rosters that agree in these give the same

@@ -1,12 +1,11 @@
 -- Everyone seated in one array, and what their rows say, found once for all.
-use Rattle.std.proofs.Common.{◌≡◌, ℕ, ◌+◌, ◌-◌, ◌<◌, ◌≤◌, List, [], ◌∷◌, ◌++◌, map, length, get_or, take, drop, set, sym, refl, ap, ◌∙◌, append_assoc, append-nil, add-zero, add-one, arith, length-append, length-take-le, take_all, take-suc, take-take, take_at, drop_at}
+use Rattle.std.proofs.Common.{◌≡◌, ℕ, ◌+◌, ◌-◌, ◌≤◌, List, [], ◌∷◌, ◌++◌, map, length, take, drop, sym, refl, ap, ◌∙◌, append_assoc, arith, length-append, length-take-le, take_all, take-take, take_at, drop_at}
 use mathlib.Core.List.{map-append}
 use lib.Ieee.{Float}
 use lib.ListN.{length-map}
 use lib.Seq.{take-append-add}
 use Rattle.base.specs.Sheets.{laid}
-use Rattle.base.proofs.Sheets.{laid_none, laid_one, laid_laid, length_laid}
-use Rattle.base.proofs.Arrays.{push, all_held, held_fits}
+use Rattle.base.proofs.Arrays.{all_held, held_fits}
 use Rattle.roster.specs.Roster.{of_ratings, row_of, observe}
 use Rattle.roster.specs.Rows.{value_at}
 use Rattle.roster.proofs.Laws.{value_observed}
@@ -15,49 +14,20 @@ use Rattle.matchmaker.specs.Steps.{rows_average, rows_quality}
 
 -- ---- a team behind the first `at` of an array
 
--- no place yet
-pub seat_start : (players : List ℕ) (at : ℕ) → take (at + 0) players ≡ take at players ++ []
-seat_start players at = rw (add-zero, append-nil)
-
-module _ (players places : List ℕ) (at : ℕ) where
-  -- one place more
-  pub seat_on : (out : List ℕ) (i : ℕ) → i < length places → at + i < length out → take (at + i) out ≡ take at players ++ take i places → take (at + (i + 1)) (set out (at + i) (get_or places i 0)) ≡ take at players ++ take (i + 1) places
-  seat_on out i h room inv =
-      let e : at + (i + 1) ≡ at + i + 1 = omega arith in
-      ap (λ (n : ℕ). take n (set out (at + i) (get_or places i 0))) e
-      ∙ push out (at + i) (get_or places i 0) room
-      ∙ ap (λ (l : List ℕ). l ++ (get_or places i 0 ∷ [])) inv
-      ∙ append_assoc (take at players) (take i places) (get_or places i 0 ∷ [])
-      ∙ ap (λ (l : List ℕ). take at players ++ l) (sym (take-suc places i 0 h) ∙ ap (λ (n : ℕ). take n places) (sym (add-one i)))
-
-  -- all places are copied: those that the team holds stand there
-  pub seat_end : (out : List ℕ) (len i : ℕ) → at ≤ length players → i ≡ length places → take (at + i) out ≡ take at players ++ take i places → take (at + length (take len places)) out ≡ take at players ++ take len places
-  seat_end out len i fits e inv =
-      let n = length (take len places) in
-      let k : length (take len places) ≤ length places = held_fits len places refl in
-      let l : length (take at players) ≡ at = length-take-le at players fits in
-      sym (take-take (at + n) (at + i) out (omega arith))
-      ∙ ap (take (at + n)) inv
-      ∙ ap (λ (m : ℕ). take (m + n) (take at players ++ take i places)) (sym l)
-      ∙ take-append-add (take at players) (take i places) n
-      ∙ ap (λ (r : List ℕ). take at players ++ r) (take-take n i places (omega arith) ∙ all_held len places refl)
-
-  -- and the array as it was elsewhere: no place yet, one more, all
-  pub seat_none : laid players at (take 0 places) ≡ players
-  seat_none = laid_none players at
-
-  pub seat_more : (out : List ℕ) (i : ℕ) → i < length places → at + i < length players → out ≡ laid players at (take i places) → set out (at + i) (get_or places i 0) ≡ laid players at (take (i + 1) places)
-  seat_more out i h room inv =
-      let l : length (take i places) ≡ i = length-take-le i places (omega arith) in
-      let long : length out ≡ length players = rw inv (length_laid players at (take i places) (omega (arith, l))) in
-      laid_one out (at + i) (get_or places i 0) (omega arith)
-      ∙ ap (λ (d : List ℕ). laid d (at + i) (get_or places i 0 ∷ [])) inv
-      ∙ ap (λ (n : ℕ). laid (laid players at (take i places)) (at + n) (get_or places i 0 ∷ [])) (sym l)
-      ∙ laid_laid players at (take i places) (get_or places i 0 ∷ []) (omega (arith, l))
-      ∙ ap (laid players at) (sym (take-suc places i 0 h) ∙ ap (λ (n : ℕ). take n places) (sym (add-one i)))
-
-  pub seat_all : (out : List ℕ) (i : ℕ) → i ≡ length places → out ≡ laid players at (take i places) → out ≡ laid players at places
-  seat_all out i e inv = inv ∙ ap (laid players at) (take_all i places (omega arith))
+-- all its places are copied: those that the team holds stand there
+pub seat_front : (players places : List ℕ) (at len : ℕ) → at ≤ length players → take (at + length (take len places)) (laid players at places) ≡ take at players ++ take len places
+unfolding laid
+seat_front players places at len fits =
+    let n = length (take len places) in
+    let m = length places in
+    let k : length (take len places) ≤ length places = held_fits len places refl in
+    let l : length (take at players) ≡ at = length-take-le at players fits in
+    let e : length (take at players ++ places) ≡ at + length places = omega (arith, length-append (take at players) places) in
+    sym (take-take (at + n) (at + m) (take at players ++ places ++ drop (at + m) players) (omega arith))
+    ∙ ap (take (at + n)) (take_at (take at players ++ places) (drop (at + m) players) (at + m) e)
+    ∙ ap (λ (h : ℕ). take (h + n) (take at players ++ places)) (sym l)
+    ∙ take-append-add (take at players) places n
+    ∙ ap (λ (r : List ℕ). take at players ++ r) (all_held len places refl)
 
 -- team A at the front and team B behind it are everyone seated
 pub seated_both : (a b z x r : List ℕ) {n : ℕ} → n ≡ length a → take (0 + length a) x ≡ take 0 z ++ a → take (n + length b) r ≡ take n x ++ b → take (length (a ++ b)) r ≡ a ++ b

@@ -1,14 +1,14 @@
 -- Steps of the sums, as the code takes them one player at a time, and of the quality by rows found before. Leaves cite these;
 -- document 01's own functions don't.
 use Rattle.std.specs.Prelude.{ℕ, List, length, Float}
-use Rattle.std.proofs.Math.Option.{Option, none, some}
+use Rattle.std.specs.Prelude.{Option, None, Some}
 use Rattle.roster.specs.Rows.{value_at}
 use Rattle.matchmaker.specs.Quality.{observations, sum_of, average_from, quality_between}
 
 -- b with one more observation, if there is one
 abbrev pub absorb : {A B : Type 0} → (B → A → B) → B → Option A → B
-absorb f b none = b
-absorb f b (some x) = f b x
+absorb f b None = b
+absorb f b (Some x) = f b x
 
 -- the average of what a column says in these rows
 abbrev pub rows_average : List Float → List ℕ → Float

@@ -6,13 +6,12 @@ ghost use mathlib.Core.List.{foldl};
 ghost use Rattle.std.specs.Float.Ieee as Ieee;
 ghost use Rattle.std.specs.Float.{binary64};
 ghost use Rattle.base.specs.Sheets.{laid};
-ghost use Rattle.roster.specs.Roster.{of_ratings, observe, observed_of};
+ghost use Rattle.roster.specs.Roster.{of_ratings, observe};
 ghost use Rattle.roster.specs.Rows.{value_at};
 ghost use Rattle.matchmaker.specs.Quality.{team_of, match_of, overfull, seated, observations, average_from, average_of, quality_between, quality_of, QualityPromise};
 ghost use Rattle.matchmaker.specs.Steps.{absorb, rows_average, rows_quality};
 
-use base::{Checked, Refusal};
-use roster::Observed;
+use base::Refusal;
 
 // The first `len` players, in order. What stands behind them is free.
 #[repr(C)]
@@ -29,27 +28,15 @@ pub struct ProposedMatch {
     pub b: Team,
 }
 
-// Everyone seated in one array, team A then B. What stands behind them is what team B's array has behind its length, and then team A's.
-#[derive(Clone, Copy)]
-pub struct Seated {
-    pub players: [u64; 16],
-}
-
-#[derive(Clone, Copy)]
-pub enum Quality {
-    Refused(Refusal),
-    Of(f64),
-}
-
 // ---- leaves, for every length and every column
 
 // The sum with what was observed of one more player.
-pub fn add_observed(sum: f64, observed: Observed) -> f64
-    ensures { result ≡ absorb (Ieee.add binary64) sum (observed_of observed) }
+pub fn add_observed(sum: f64, observed: Option<f64>) -> f64
+    ensures { result ≡ absorb (Ieee.add binary64) sum observed }
 {
     match observed {
-        Observed::Of(x) => sum + x,
-        Observed::Nothing => sum,
+        Some(x) => sum + x,
+        None => sum,
     }
 }
 
@@ -64,11 +51,7 @@ fn add_player(sum: f64, ids: &[u64], column: &[f64], player: u64) -> f64
 pub fn average(sum: f64, len: usize) -> f64
     ensures { result ≡ average_from sum len }
 {
-    let mut seats = len as u64;
-    if seats == 0 {
-        seats = 1;
-    }
-    sum / std::num::nearest_u64_to_f64(seats)
+    sum / std::num::nearest_u64_to_f64(len.max(1) as u64)
 }
 
 // The quality of two averages. Those 400 points apart or more are not divided, nor is a NaN, which fails a test. The tests come before `abs`: behind it
@@ -77,10 +60,8 @@ pub fn quality_between(x: f64, y: f64) -> f64
     ensures { result ≡ quality_between x y }
 {
     let difference = x - y;
-    if difference < 400.0 {
-        if -400.0 < difference {
-            return 1.0 - base::abs(difference) / 400.0;
-        }
+    if difference < 400.0 && -400.0 < difference {
+        return 1.0 - base::abs(difference) / 400.0;
     }
     0.0
 }
@@ -90,10 +71,8 @@ pub fn add_rows(sum: f64, column: &[f64], rows: &[usize]) -> f64
     ensures { result ≡ foldl (Ieee.add binary64) sum (observations (value_at column.now) rows.now) }
 {
     let mut so_far = sum;
-    let mut i: usize = 0;
-    while i < rows.len() {
-        so_far = add_observed(so_far, roster::observed_at(column, rows[i]));
-        i += 1;
+    for &row in rows {
+        so_far = add_observed(so_far, roster::observed_at(column, row));
     }
     so_far
 }
@@ -117,13 +96,9 @@ impl Team {
     pub fn add_to(self, sum: f64, ids: &[u64], column: &[f64]) -> f64
         ensures { result ≡ foldl (Ieee.add binary64) sum (observations (observe ids.now column.now) (team_of self).players) }
     {
-        let players = self.players;
-        let n = self.held();
         let mut total = sum;
-        let mut i: usize = 0;
-        while i < n {
-            total = add_player(total, ids, column, players[i]);
-            i += 1;
+        for &player in &self.players[..self.held()] {
+            total = add_player(total, ids, column, player);
         }
         total
     }
@@ -134,13 +109,8 @@ impl Team {
         requires { at ≤ 8 }
         ensures { (take (at + length (team_of self).players) result ≡ take at players ++ (team_of self).players) × (result ≡ laid players at self.players) }
     {
-        let places = self.players;
         let mut out = players;
-        let mut i: usize = 0;
-        while i < 8 {
-            out[at + i] = places[i];
-            i += 1;
-        }
+        out[at..at + 8].copy_from_slice(&self.players);
         out
     }
 
@@ -148,8 +118,7 @@ impl Team {
     pub fn average_rating(self, ids: &[u64], ratings: &[f64]) -> f64
         ensures { result ≡ average_of (of_ratings ids.now ratings.now) (team_of self).players }
     {
-        let n = self.held();
-        average(self.add_to(0.0, ids, ratings), n)
+        average(self.add_to(0.0, ids, ratings), self.held())
     }
 }
 
@@ -160,54 +129,41 @@ impl ProposedMatch {
     pub fn seats(self) -> usize
         ensures { result ≡ length (seated (match_of self)) }
     {
-        let a = self.a;
-        let b = self.b;
-        a.held() + b.held()
+        self.a.held() + self.b.held()
     }
 
     // Is a team over 8?
     pub fn is_overfull(self) -> bool
         ensures { result ≡ overfull (match_of self) }
     {
-        let a = self.a;
-        let b = self.b;
-        if 8 < a.len {
-            return true;
-        }
-        8 < b.len
+        8 < self.a.len || 8 < self.b.len
     }
 
     // The quality of two teams of any stated length by any columns.
     pub fn rated_quality(self, ids: &[u64], ratings: &[f64]) -> f64
         ensures { result ≡ quality_of (of_ratings ids.now ratings.now) (match_of self).a.players (match_of self).b.players }
     {
-        let a = self.a;
-        let b = self.b;
         quality_between(
-            a.average_rating(ids, ratings),
-            b.average_rating(ids, ratings),
+            self.a.average_rating(ids, ratings),
+            self.b.average_rating(ids, ratings),
         )
     }
 
-    // Everyone seated in one array, read once.
-    pub fn seated_players(self) -> Seated
-        ensures players_value { take (length (seated (match_of self))) result.players ≡ seated (match_of self) }
-        ensures players_value_2 { result.players ≡ laid (laid (replicate 16 0) 0 self.a.players) (length (team_of self.a).players) self.b.players }
+    // Everyone seated in one array, read once: team A, then B. What stands behind them is what team B's array has behind its length, and
+    // then team A's.
+    pub fn seated_players(self) -> [u64; 16]
+        ensures players_value { take (length (seated (match_of self))) result ≡ seated (match_of self) }
+        ensures players_value_2 { result ≡ laid (laid (replicate 16 0) 0 self.a.players) (length (team_of self.a).players) self.b.players }
     {
-        let a = self.a;
-        let b = self.b;
-        let first = a.seat([0; 16], 0);
-        Seated {
-            players: b.seat(first, a.held()),
-        }
+        let first = self.a.seat([0; 16], 0);
+        self.b.seat(first, self.a.held())
     }
 
     // The quality by the rows of everyone seated, team A then B.
     pub fn quality_by_rows(self, ratings: &[f64], rows: [usize; 16]) -> f64
         ensures { result ≡ rows_quality ratings.now (take (length (match_of self).a.players) rows) (take (length (match_of self).b.players) (drop (length (match_of self).a.players) rows)) }
     {
-        let a = self.a;
-        let n = a.held();
+        let n = self.a.held();
         let end = self.seats();
         let x = average_of_rows(ratings, &rows[..n]);
         let y = average_of_rows(ratings, &rows[n..end]);
@@ -215,20 +171,16 @@ impl ProposedMatch {
     }
 
     // How even the teams are: 1.0 where their averages are equal, 0.0 where they differ by 400 points or more.
-    pub fn match_quality(self, ids: &[u64], ratings: &[f64]) -> Quality
+    pub fn match_quality(self, ids: &[u64], ratings: &[f64]) -> Result<f64, Refusal>
         ensures { QualityPromise (of_ratings ids.now ratings.now) (match_of self) result }
     {
         if self.is_overfull() {
-            return Quality::Refused(Refusal::OverLimit);
+            return Err(Refusal::OverLimit);
         }
         let everyone = self.seated_players();
-        let players = everyone.players;
-        let n = self.seats();
-        let lengths = [ratings.len(), 0, 0, 0, 0];
+        let players = &everyone[..self.seats()];
         let mut rows = [0; 16];
-        match roster::checked_rows(ids, lengths, 1, &players[..n], &mut rows) {
-            Checked::Passed => Quality::Of(self.quality_by_rows(ratings, rows)),
-            Checked::Refused(refusal) => Quality::Refused(refusal),
-        }
+        roster::checked_rows(ids, &[ratings.len()], players, &mut rows)?;
+        Ok(self.quality_by_rows(ratings, rows))
     }
 }

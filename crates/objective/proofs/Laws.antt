@@ -1,25 +1,25 @@
 -- The laws of objectives: vectors, waits, sums and answers.
-use Prim.Native.Nat.{ℕ, ◌+◌, ◌≤◌, ◌<◌}
-use mathlib.Core.Path.{◌≡◌, sym, ap, ◌∙◌}
-use mathlib.Core.Bool.{Bool, true, false, cond}
-use mathlib.Core.List.{List, ◌∷◌, ◌++◌, foldl}
-use mathlib.Core.Option.{Option}
-use native.Mathlib.Numerals.{add-one}
+use Prim.Native.Nat.{ℕ}
+use mathlib.Core.Path.{◌≡◌, refl, ap, ◌∙◌}
+use mathlib.Core.Bool.{true, false}
+use mathlib.Core.List.{List, [], ◌∷◌, ◌++◌, foldl}
+use Rattle.std.specs.Prelude.{Option}
 use lib.Dec.{ltb}
 use lib.Ieee.{Float, binary64, add, lt}
-use lib.ListN.{length, take, drop, get_or, drop_of_length-le}
-use lib.Seq.{drop-cons}
+use lib.ListN.{length, take}
 use Rattle.base.specs.Floats.{zero}
-use Rattle.base.specs.Lists.{any}
-use Rattle.base.specs.Refusals.{Outcome, refused, gives, guarded, refusal_number, checked_of}
-use Rattle.base.specs.declared.Checked.{Checked}
-use Rattle.base.specs.declared.Checked.TheVariants.{Passed, Refused}
+use Rattle.std.specs.List.{zip}
+use Rattle.base.specs.Lists.{seek, any}
+use Rattle.base.specs.Refusals.{Outcome, refused, gives, guarded, refusal_number, outcome_of}
+use Rattle.std.specs.Prelude.{Result}
+use Rattle.std.specs.Prelude.{Ok, Err}
 use Rattle.base.specs.declared.Refusal.{Refusal}
 use Rattle.queue.specs.Time.{time_over}
 use Rattle.queue.specs.Queue.{QueueState, joined_over}
 use Rattle.queue.specs.declared.QueueEntry.{QueueEntry}
 use Rattle.roster.specs.Roster.{Roster, rating_of, deviation_of, ratings_check, deviations_check}
 use Rattle.matchmaker.specs.Quality.{MatchState, overfull, seated, observations, average_from, quality_of}
+use Rattle.base.proofs.Cases.{cases}
 use Rattle.base.proofs.Loops.{fold_append}
 use Rattle.base.proofs.Checks.{guard_refuses, guard_passes}
 use Rattle.matchmaker.proofs.Laws.{observations_append}
@@ -32,24 +32,12 @@ use Rattle.objective.specs.Soft.{latency_at, latency_of, soft_value_of, soft_val
 
 -- ---- vectors
 
-below_cons : (x y : Float) (xs ys : List Float) (t : Bool) → lt x y ≡ t → any_below (x ∷ xs) (y ∷ ys) ≡ cond t true (any_below xs ys)
-unfolding any_below
-below_cons x y xs ys t h = rw h
-
--- v is what the whole of both lists gives, and what is left of them still gives
-module _ {v : Bool} (xs ys : List Float) (i : ℕ) (d : Float) (inv : v ≡ any_below (drop i xs) (drop i ys)) (j : i < length xs) (k : i < length ys) where
-  -- a float below its counterpart decides
-  pub below_hit : lt (get_or xs i d) (get_or ys i d) ≡ true → true ≡ v
-  below_hit h = sym (inv ∙ rw (drop-cons xs i d j, drop-cons ys i d k) (below_cons _ _ _ _ true h))
-
-  -- any other leaves it to the rest
-  pub below_on : lt (get_or xs i d) (get_or ys i d) ≡ false → v ≡ any_below (drop (i + 1) xs) (drop (i + 1) ys)
-  below_on h = inv ∙ rw (drop-cons xs i d j, drop-cons ys i d k, add-one i) (below_cons _ _ _ _ false h)
-
--- and nothing is left at the end
-pub below_end : {v : Bool} (xs ys : List Float) (i : ℕ) → v ≡ any_below (drop i xs) (drop i ys) → length xs ≤ i → false ≡ v
-unfolding any_below
-below_end xs ys i inv h = sym (inv ∙ rw (drop_of_length-le xs h))
+-- a pair of floats, the first below the second, decides
+pub below_zip : (xs ys : List Float) → any (λ (p : Float × Float). lt p.0 p.1) (zip xs ys) ≡ any_below xs ys
+unfolding seek any_below
+below_zip [] ys = refl
+below_zip (x ∷ xs) [] = refl
+below_zip (x ∷ xs) (y ∷ ys) = cases (lt x y) (λ t. rw t) (λ f. rw f (below_zip xs ys))
 
 -- one that is below somewhere does not dominate
 pub not_worse : (v w : MatchObjectiveVector) → any_below (against v w) (against w v) ≡ true → false ≡ dominates_of v w
@@ -85,7 +73,7 @@ module _ (o : MatchObjective) (r : Roster) (queue : List QueueEntry) (clock : �
 -- ---- answers
 
 -- a check that passes leaves the answer to what comes behind it
-passed : {A : Type 0} {o : Outcome Unit} {x v : Outcome A} (k : Checked) → k ≡ Passed → checked_of k ≡ o → x ≡ v → x ≡ guarded o v
+passed : {A : Type 0} {o : Outcome Unit} {x v : Outcome A} (k : Result Unit Refusal) → k ≡ Ok tt → outcome_of k ≡ o → x ≡ v → x ≡ guarded o v
 passed k e h i = i ∙ guard_passes _ k e h
 
 module _ (o : MatchObjective) (r : Roster) (q : QueueState) (clock : ℕ) (m : MatchState) where
@@ -98,12 +86,12 @@ module _ (o : MatchObjective) (r : Roster) (q : QueueState) (clock : ℕ) (m : M
     pub score_long : ltb 64 q.size ≡ true → refused 1 ≡ score_rule o r q clock m
     score_long t = rw (a, t)
 
-    module _ (b : ltb 64 q.size ≡ false) (k : Checked) (h : checked_of k ≡ deviations_check r) where
+    module _ (b : ltb 64 q.size ≡ false) (k : Result Unit Refusal) (h : outcome_of k ≡ deviations_check r) where
       -- what the roster's check refuses, by its number
-      pub score_roster : {x : Refusal} → k ≡ Refused x → refused (refusal_number x) ≡ score_rule o r q clock m
+      pub score_roster : {x : Refusal} → k ≡ Err x → refused (refusal_number x) ≡ score_rule o r q clock m
       score_roster e = rw (a, b) (guard_refuses _ k e h)
 
-      module _ (e : k ≡ Passed) where
+      module _ (e : k ≡ Ok tt) where
         -- a clock above 2^53: 4
         pub score_clock : time_over clock ≡ true → refused 4 ≡ score_rule o r q clock m
         score_clock t = rw (a, b) (passed k e h (rw t))
@@ -122,13 +110,13 @@ module _ (r : Roster) (m : MatchState) (o : SoftObjective) where
   pub value_overfull : overfull m ≡ true → refused 1 ≡ soft_value_rule r m o
   value_overfull t = rw t
 
-  module _ (a : overfull m ≡ false) (k : Checked) (h : checked_of k ≡ ratings_check r) where
+  module _ (a : overfull m ≡ false) (k : Result Unit Refusal) (h : outcome_of k ≡ ratings_check r) where
     -- what the roster's check refuses, by its number
-    pub value_roster : {x : Refusal} → k ≡ Refused x → refused (refusal_number x) ≡ soft_value_rule r m o
+    pub value_roster : {x : Refusal} → k ≡ Err x → refused (refusal_number x) ≡ soft_value_rule r m o
     value_roster e = rw a (guard_refuses _ k e h)
 
     -- else the value
-    pub value_given : k ≡ Passed → {s : Float} → s ≡ soft_value_of r m o → gives s ≡ soft_value_rule r m o
+    pub value_given : k ≡ Ok tt → {s : Float} → s ≡ soft_value_of r m o → gives s ≡ soft_value_rule r m o
     value_given e s = rw a (passed k e h (ap gives s))
 
 module _ (r : Roster) (m : MatchState) (objectives : List SoftObjective) (count : ℕ) where
@@ -141,11 +129,11 @@ module _ (r : Roster) (m : MatchState) (objectives : List SoftObjective) (count 
     pub soft_long : ltb 8 count ≡ true → refused 1 ≡ soft_score_rule r m objectives count
     soft_long t = rw (a, t)
 
-    module _ (b : ltb 8 count ≡ false) (k : Checked) (h : checked_of k ≡ ratings_check r) where
+    module _ (b : ltb 8 count ≡ false) (k : Result Unit Refusal) (h : outcome_of k ≡ ratings_check r) where
       -- what the roster's check refuses, by its number
-      pub soft_roster : {x : Refusal} → k ≡ Refused x → refused (refusal_number x) ≡ soft_score_rule r m objectives count
+      pub soft_roster : {x : Refusal} → k ≡ Err x → refused (refusal_number x) ≡ soft_score_rule r m objectives count
       soft_roster e = rw (a, b) (guard_refuses _ k e h)
 
       -- else the score
-      pub soft_given : k ≡ Passed → {s : Float} → s ≡ soft_score_of r m (take count objectives) → gives s ≡ soft_score_rule r m objectives count
+      pub soft_given : k ≡ Ok tt → {s : Float} → s ≡ soft_score_of r m (take count objectives) → gives s ≡ soft_score_rule r m objectives count
       soft_given e s = rw (a, b) (passed k e h (ap gives s))

@@ -3,7 +3,7 @@ use Prim.Native.Nat.{ℕ}
 use mathlib.Core.Path.{◌≡◌, refl, sym, ap, ◌∙◌}
 use mathlib.Core.Bool.{Bool, true, false, true≢false}
 use mathlib.Core.List.{List, [], ◌∷◌, ◌++◌, foldl}
-use mathlib.Core.Option.{Option, none, some, map}
+use Rattle.std.specs.Prelude.{Option, None, Some, option_map}
 use borrow.Author.Tests.{eq-eqb}
 use lib.Ieee.{Float, nan, inf, fin, lt, of_bits}
 use Rattle.base.specs.Floats as F
@@ -25,7 +25,7 @@ unfolding observations
 nobody_waits clock queue = refl
 
 -- a player's first entry gives their wait, whatever copies stand behind it
-pub first_counts : (clock : ℕ) (e : QueueEntry) (queue : List QueueEntry) → waited_seconds clock (e ∷ queue) e.player ≡ some (seconds_of (since clock e.joined))
+pub first_counts : (clock : ℕ) (e : QueueEntry) (queue : List QueueEntry) → waited_seconds clock (e ∷ queue) e.player ≡ Some (seconds_of (since clock e.joined))
 unfolding seek
 first_counts clock e queue = rw (eq-eqb e.player e.player refl)
 
@@ -39,14 +39,14 @@ seek_nothing p f b (x ∷ xs) h =
     cases (p x) (λ t. absurd (true≢false (rw t at h))) (λ k. rw k (seek_nothing p f b xs (rw k at h)))
 
 -- for matchmaker: a player of whom nothing is observed adds nothing
-unobserved : {A : Type 0} (g : ℕ → Option A) (ps qs : List ℕ) (p : ℕ) → g p ≡ none → observations g (ps ++ (p ∷ qs)) ≡ observations g (ps ++ qs)
+unobserved : {A : Type 0} (g : ℕ → Option A) (ps qs : List ℕ) (p : ℕ) → g p ≡ None → observations g (ps ++ (p ∷ qs)) ≡ observations g (ps ++ qs)
 unfolding observations
 unobserved g ps qs p h = observations_append g ps (p ∷ qs) ∙ rw h (sym (observations_append g ps qs))
 
 -- a player who isn't queued changes no longest wait, wherever they are seated
 pub not_queued : (clock : ℕ) (queue : List QueueEntry) (ps qs : List ℕ) (p : ℕ) → any (is_of p) queue ≡ false → longest_wait clock queue (ps ++ (p ∷ qs)) ≡ longest_wait clock queue (ps ++ qs)
 not_queued clock queue ps qs p h =
-    let e : waited_seconds clock queue p ≡ none = ap (map seconds_of) (seek_nothing (is_of p) _ none queue h) in
+    let e : waited_seconds clock queue p ≡ None = ap (option_map seconds_of) (seek_nothing (is_of p) _ None queue h) in
     ap (foldl longer F.zero) (unobserved (waited_seconds clock queue) ps qs p e)
 
 -- ---- the longest

@@ -57,14 +57,7 @@ impl ObjectiveWeights {
 fn any_below(xs: [f64; 6], ys: [f64; 6]) -> bool
     ensures { result ≡ any_below xs ys }
 {
-    let mut i: usize = 0;
-    while i < 6 {
-        if xs[i] < ys[i] {
-            return true;
-        }
-        i += 1;
-    }
-    false
+    xs.iter().zip(ys.iter()).any(|(&x, &y)| x < y)
 }
 
 impl MatchObjectiveVector {
@@ -114,9 +107,6 @@ impl MatchObjectiveVector {
             other.utilization,
             self.wait,
         ];
-        if any_below(mine, theirs) {
-            return false;
-        }
-        any_below(theirs, mine)
+        !any_below(mine, theirs) && any_below(theirs, mine)
     }
 }

@@ -7,10 +7,11 @@ ghost use Rattle.roster.specs.Rows.{value_at};
 ghost use Rattle.roster.specs.Roster.{of_deviations};
 ghost use Rattle.matchmaker.specs.Quality.{match_of, seated, observations, sum_of};
 ghost use Rattle.matchmaker.specs.Steps.{absorb, rows_quality};
-ghost use Rattle.objective.specs.Score.{longer, score_from, score_given, score_rule};
+ghost use Rattle.objective.specs.Score.{longer, score_from, score_rule};
+ghost use Rattle.base.specs.Refusals.{outcome_of};
 ghost use Rattle.objective.specs.Steps.{column_wait};
 
-use base::{Checked, Refusal};
+use base::Refusal;
 use matchmaker::ProposedMatch;
 use queue::Queue;
 
@@ -24,20 +25,11 @@ pub struct MatchObjective {
     pub uncertainty: f64,
 }
 
-#[derive(Clone, Copy)]
-pub enum Score {
-    Refused(Refusal),
-    Of(f64),
-}
-
 // The longer of two waits.
 pub fn longer_of(x: f64, y: f64) -> f64
     ensures { result ≡ longer x y }
 {
-    if x < y {
-        return y;
-    }
-    x
+    if x < y { y } else { x }
 }
 
 // The longest wait in seconds, with one more player's, who may wait in several places: the first counts.
@@ -60,10 +52,8 @@ fn longest_wait(players: &[u64], waiting: &[u64], joined: &[u64], clock: u64) ->
     ensures { result ≡ foldl longer Floats.zero (observations (column_wait clock waiting.now joined.now) players.now) }
 {
     let mut longest = 0.0;
-    let mut i: usize = 0;
-    while i < players.len() {
-        longest = add_wait(longest, waiting, joined, clock, players[i]);
-        i += 1;
+    for &player in players {
+        longest = add_wait(longest, waiting, joined, clock, player);
     }
     longest
 }
@@ -104,35 +94,29 @@ impl MatchObjective {
         ratings: &[f64],
         deviations: &[f64],
         clock: u64,
-    ) -> Score
-        ensures { score_given result ≡ score_rule self (of_deviations ids.now ratings.now deviations.now) (queue_of queue) clock (match_of proposed) }
+    ) -> Result<f64, Refusal>
+        ensures { outcome_of result ≡ score_rule self (of_deviations ids.now ratings.now deviations.now) (queue_of queue) clock (match_of proposed) }
     {
         if proposed.is_overfull() {
-            return Score::Refused(Refusal::OverLimit);
+            return Err(Refusal::OverLimit);
         }
         if 64 < queue.len {
-            return Score::Refused(Refusal::OverLimit);
+            return Err(Refusal::OverLimit);
         }
         let everyone = proposed.seated_players();
-        let players = everyone.players;
-        let n = proposed.seats();
-        let lengths = [ratings.len(), deviations.len(), 0, 0, 0];
+        let players = &everyone[..proposed.seats()];
         let mut rows = [0; 16];
-        let checked = roster::checked_rows(ids, lengths, 2, &players[..n], &mut rows);
-        if let Checked::Refused(refusal) = checked {
-            return Score::Refused(refusal);
-        }
+        roster::checked_rows(ids, &[ratings.len(), deviations.len()], players, &mut rows)?;
         if queue::time::is_over(clock) {
-            return Score::Refused(Refusal::Clock);
+            return Err(Refusal::Clock);
         }
         let columns = queue.columns();
-        let waiting = columns.players;
-        let joined = columns.joined;
-        let end = queue.len;
-        if queue::time::any_over(&joined[..end]) {
-            return Score::Refused(Refusal::Clock);
+        let waiting = &columns.players[..queue.len];
+        let joined = &columns.joined[..queue.len];
+        if queue::time::any_over(joined) {
+            return Err(Refusal::Clock);
         }
-        let wait = longest_wait(&players[..n], &waiting[..end], &joined[..end], clock);
-        Score::Of(self.score_by_rows(proposed, rows, ratings, deviations, wait))
+        let wait = longest_wait(players, waiting, joined, clock);
+        Ok(self.score_by_rows(proposed, rows, ratings, deviations, wait))
     }
 }

@@ -2,11 +2,10 @@
 ghost use Rattle.std.specs.Prelude.{◌≡◌, take};
 ghost use Rattle.roster.specs.Roster.{of_ratings};
 ghost use Rattle.matchmaker.specs.Quality.{match_of};
-ghost use Rattle.objective.specs.Score.{score_given};
+ghost use Rattle.base.specs.Refusals.{outcome_of};
 ghost use Rattle.objective.specs.Soft.{weight_of, soft_value, latency_at, latency_of, weighted, weighted_sum, soft_value_rule, soft_score_of, soft_score_rule};
 
-use crate::score::Score;
-use base::{Checked, Refusal};
+use base::Refusal;
 use matchmaker::ProposedMatch;
 
 // One of three kinds, each with its weight.
@@ -28,9 +27,8 @@ pub fn latency_at(average: f64) -> f64
 pub fn rated_latency(proposed: ProposedMatch, ids: &[u64], ratings: &[f64]) -> f64
     ensures { result ≡ latency_of (of_ratings ids.now ratings.now) (match_of proposed) }
 {
-    let a = proposed.a;
-    let b = proposed.b;
-    let sum = b.add_to(a.add_to(0.0, ids, ratings), ids, ratings);
+    let of_a = proposed.a.add_to(0.0, ids, ratings);
+    let sum = proposed.b.add_to(of_a, ids, ratings);
     latency_at(matchmaker::average(sum, proposed.seats()))
 }
 
@@ -57,18 +55,21 @@ impl SoftObjective {
     }
 
     // Its value for a match, without its weight.
-    pub fn value(self, proposed: ProposedMatch, ids: &[u64], ratings: &[f64]) -> Score
-        ensures { score_given result ≡ soft_value_rule (of_ratings ids.now ratings.now) (match_of proposed) self }
+    pub fn value(
+        self,
+        proposed: ProposedMatch,
+        ids: &[u64],
+        ratings: &[f64],
+    ) -> Result<f64, Refusal>
+        ensures { outcome_of result ≡ soft_value_rule (of_ratings ids.now ratings.now) (match_of proposed) self }
     {
         if proposed.is_overfull() {
-            return Score::Refused(Refusal::OverLimit);
+            return Err(Refusal::OverLimit);
         }
-        if let Checked::Refused(refusal) = roster::check_ratings(ids, ratings) {
-            return Score::Refused(refusal);
-        }
+        roster::check_ratings(ids, ratings)?;
         let quality = proposed.rated_quality(ids, ratings);
         let latency = rated_latency(proposed, ids, ratings);
-        Score::Of(self.value_from(quality, latency))
+        Ok(self.value_from(quality, latency))
     }
 }
 
@@ -83,13 +84,9 @@ fn add_weighted(sum: f64, objective: SoftObjective, quality: f64, latency: f64) 
 pub fn weighted_sum(objectives: [SoftObjective; 8], count: usize, quality: f64, latency: f64) -> f64
     ensures { result ≡ weighted_sum quality latency (take count objectives) }
 {
-    let n = base::at_most(count, 8);
     let mut sum = 0.0;
-    let mut i: usize = 0;
-    while i < n {
-        let objective = objectives[i];
+    for &objective in &objectives[..base::at_most(count, 8)] {
         sum = add_weighted(sum, objective, quality, latency);
-        i += 1;
     }
     sum
 }
@@ -116,17 +113,15 @@ pub fn soft_score(
     proposed: ProposedMatch,
     ids: &[u64],
     ratings: &[f64],
-) -> Score
-    ensures { score_given result ≡ soft_score_rule (of_ratings ids.now ratings.now) (match_of proposed) objectives count }
+) -> Result<f64, Refusal>
+    ensures { outcome_of result ≡ soft_score_rule (of_ratings ids.now ratings.now) (match_of proposed) objectives count }
 {
     if proposed.is_overfull() {
-        return Score::Refused(Refusal::OverLimit);
+        return Err(Refusal::OverLimit);
     }
     if 8 < count {
-        return Score::Refused(Refusal::OverLimit);
+        return Err(Refusal::OverLimit);
     }
-    if let Checked::Refused(refusal) = roster::check_ratings(ids, ratings) {
-        return Score::Refused(refusal);
-    }
-    Score::Of(rated_soft_score(objectives, count, proposed, ids, ratings))
+    roster::check_ratings(ids, ratings)?;
+    Ok(rated_soft_score(objectives, count, proposed, ids, ratings))
 }

@@ -5,15 +5,13 @@
 ghost use Rattle.std.specs.Prelude.{◌≡◌};
 ghost use Rattle.roster.specs.Roster.{of_rules};
 ghost use Rattle.matchmaker.specs.Quality.{match_of};
-ghost use Rattle.objective.specs.Score.{score_given};
-ghost use Rattle.constraint.specs.Refusing.{verdict_of, constraints_rule};
+ghost use Rattle.base.specs.Refusals.{outcome_of};
+ghost use Rattle.constraint.specs.Refusing.{constraints_rule};
 ghost use Rattle.policy.specs.Policy.{policy_score_rule};
 
-use base::{Checked, Refusal};
+use base::Refusal;
 use constraint::Constraints;
-use constraint::verdicts::Verdict;
 use matchmaker::ProposedMatch;
-use objective::score::Score;
 use objective::soft::SoftObjective;
 
 // Does the match satisfy everything that is brought?
@@ -25,8 +23,8 @@ pub fn satisfies_constraints(
     parties: &[u64],
     roles: &[u32],
     regions: &[u8],
-) -> Verdict
-    ensures { verdict_of result ≡ constraints_rule (of_rules ids.now ratings.now parties.now roles.now regions.now) constraints (match_of proposed) }
+) -> Result<bool, Refusal>
+    ensures { outcome_of result ≡ constraints_rule (of_rules ids.now ratings.now parties.now roles.now regions.now) constraints (match_of proposed) }
 {
     constraints.is_satisfied(proposed, ids, ratings, parties, roles, regions)
 }
@@ -42,26 +40,16 @@ pub fn score(
     parties: &[u64],
     roles: &[u32],
     regions: &[u8],
-) -> Score
-    ensures { score_given result ≡ policy_score_rule (of_rules ids.now ratings.now parties.now roles.now regions.now) constraints objectives count (match_of proposed) }
+) -> Result<f64, Refusal>
+    ensures { outcome_of result ≡ policy_score_rule (of_rules ids.now ratings.now parties.now roles.now regions.now) constraints objectives count (match_of proposed) }
 {
-    if proposed.is_overfull() {
-        return Score::Refused(Refusal::OverLimit);
+    if proposed.is_overfull() || constraints.is_over() || 8 < count {
+        return Err(Refusal::OverLimit);
     }
-    if constraints.is_over() {
-        return Score::Refused(Refusal::OverLimit);
-    }
-    if 8 < count {
-        return Score::Refused(Refusal::OverLimit);
-    }
-    if let Checked::Refused(refusal) = roster::check_rules(ids, ratings, parties, roles, regions) {
-        return Score::Refused(refusal);
-    }
-    if let Checked::Refused(refusal) = constraints.check_pairs() {
-        return Score::Refused(refusal);
-    }
+    roster::check_rules(ids, ratings, parties, roles, regions)?;
+    constraints.check_pairs()?;
     if !constraints.hold(proposed, ids, ratings, parties, roles, regions) {
-        return Score::Of(-1.0 / 0.0);
+        return Ok(-1.0 / 0.0);
     }
-    Score::Of(objective::soft::rated_soft_score(objectives, count, proposed, ids, ratings))
+    Ok(objective::soft::rated_soft_score(objectives, count, proposed, ids, ratings))
 }

@@ -1,6 +1,6 @@
 -- Laws of the queue over plain lists: one for each answer that a function gives, and what the definitions mean together.
 use Rattle.std.proofs.Common.{◌≡◌, ℕ, ◌+◌, ◌<◌, ◌≤◌, min, true, false, not, eqb, List, [], ◌∷◌, ◌++◌, map, length, get_or, take, drop, set, sym, refl, ap, ◌∙◌, arith, length-set, length-take-le, get_or-take, eq-eqb, eqb-true}
-use mathlib.Core.Option.{none, some}
+use Rattle.std.specs.Prelude.{None, Some}
 use borrow.Author.Tests.{lt-leb}
 use Rattle.base.specs.Lists.{seek, any, keep, place, remove_first, member, All}
 use Rattle.base.proofs.Cases.{cases, never}
@@ -37,36 +37,36 @@ module _ (es : List QueueEntry) (len n at p : ℕ) (long : length es ≡ 64) (cl
   full = length-take-le n es (omega arith)
 
   -- nobody of that player waits: the queue stays, and nobody is handed out
-  pub took_nobody : n ≤ at → ◌≡◌ {A = Removing} (record { queue = record { size = n; entries = take n es }; taken = gives none }) (taking p (take len es))
+  pub took_nobody : n ≤ at → ◌≡◌ {A = Removing} (record { queue = record { size = n; entries = take n es }; taken = gives None }) (taking p (take len es))
   took_nobody h =
       let past : length (take n es) ≤ place (is_of p) (take n es) = omega (arith, full) in
       let w : take n es ≡ without_first p (take n es) = sym (removed_none (is_of p) (take n es) past) in
       let q : ◌≡◌ {A = QueueState} (record { size = n; entries = take n es }) (holding (without_first p (take n es))) = stands es n (without_first p (take n es)) (omega arith) w in
-      let t : none ≡ first_of p (take n es) = sym (seek_none (is_of p) some none no_entry (take n es) past) in
+      let t : None ≡ first_of p (take n es) = sym (seek_none (is_of p) Some None no_entry (take n es) past) in
       rw (← same) (λ j. record { queue = q j; taken = gives (t j) })
 
   -- the entry at its place is handed out, and the row without it stays
-  pub took_entry : (s : QueueState) → at < n → s ≡ holding (take at (take n es) ++ drop (at + 1) (take n es)) → ◌≡◌ {A = Removing} (record { queue = s; taken = gives (some (get_or es at no_entry)) }) (taking p (take len es))
+  pub took_entry : (s : QueueState) → at < n → s ≡ holding (take at (take n es) ++ drop (at + 1) (take n es)) → ◌≡◌ {A = Removing} (record { queue = s; taken = gives (Some (get_or es at no_entry)) }) (taking p (take len es))
   took_entry s h e =
       let in_row : place (is_of p) (take n es) < length (take n es) = omega (arith, full) in
       let q : s ≡ holding (without_first p (take n es)) = e ∙ ap holding (gap_closed (is_of p) (take n es) at found) in
-      let t : some (get_or es at no_entry) ≡ first_of p (take n es) =
-      ap some (sym (get_or-take n es at no_entry h) ∙ ap (λ (m : ℕ). get_or (take n es) m no_entry) found) ∙ sym (seek_at (is_of p) some none no_entry (take n es) in_row) in
+      let t : Some (get_or es at no_entry) ≡ first_of p (take n es) =
+      ap Some (sym (get_or-take n es at no_entry h) ∙ ap (λ (m : ℕ). get_or (take n es) m no_entry) found) ∙ sym (seek_at (is_of p) Some None no_entry (take n es) in_row) in
       rw (← same) (λ j. record { queue = q j; taken = gives (t j) })
 
   -- the wait of the entry at its place
-  pub waited : (clock t : ℕ) → at < n → t ≡ since clock (get_or es at no_entry).joined → some t ≡ first_wait p clock (take len es)
+  pub waited : (clock t : ℕ) → at < n → t ≡ since clock (get_or es at no_entry).joined → Some t ≡ first_wait p clock (take len es)
   waited clock t h e =
       let in_row : place (is_of p) (take n es) < length (take n es) = omega (arith, full) in
       let w : get_or es at no_entry ≡ get_or (take n es) (place (is_of p) (take n es)) no_entry = sym (get_or-take n es at no_entry h) ∙ ap (λ (m : ℕ). get_or (take n es) m no_entry) found in
       rw (← same)
-      (ap some e ∙ ap (λ (x : QueueEntry). some (since clock x.joined)) w ∙ sym (seek_at (is_of p) (λ x. some (since clock x.joined)) none no_entry (take n es) in_row))
+      (ap Some e ∙ ap (λ (x : QueueEntry). Some (since clock x.joined)) w ∙ sym (seek_at (is_of p) (λ x. Some (since clock x.joined)) None no_entry (take n es) in_row))
 
   -- nobody of that player waits: no wait
-  pub waited_nobody : (clock : ℕ) → n ≤ at → none ≡ first_wait p clock (take len es)
+  pub waited_nobody : (clock : ℕ) → n ≤ at → None ≡ first_wait p clock (take len es)
   waited_nobody clock h =
       let past : length (take n es) ≤ place (is_of p) (take n es) = omega (arith, full) in
-      rw (← same) (sym (seek_none (is_of p) (λ e. some (since clock e.joined)) none no_entry (take n es) past))
+      rw (← same) (sym (seek_none (is_of p) (λ e. Some (since clock e.joined)) None no_entry (take n es) past))
 
 -- ---- take_all
 
@@ -113,7 +113,7 @@ withdrawn e (x ∷ es) h =
     (ap (λ (r : List QueueEntry). x ∷ r) (withdrawn e es (absent_tail e.player x.player (players es) h)))
 
 -- and the entry that is handed out is the one that was enqueued
-pub handed_back : (e : QueueEntry) (es : List QueueEntry) → member e.player (players es) ≡ false → first_of e.player (es ++ (e ∷ [])) ≡ some e
+pub handed_back : (e : QueueEntry) (es : List QueueEntry) → member e.player (players es) ≡ false → first_of e.player (es ++ (e ∷ [])) ≡ Some e
 unfolding seek
 handed_back e [] h = rw (eq-eqb e.player e.player refl)
 handed_back e (x ∷ es) h = rw (absent_head e.player x.player (players es) h) (handed_back e es (absent_tail e.player x.player (players es) h))

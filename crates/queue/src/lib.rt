@@ -2,12 +2,12 @@
 #![tactic(auto)]
 
 ghost use Rattle.std.specs.Prelude.{◌≡◌, ◌+◌, ◌<◌, ◌≤◌, [], ◌++◌, map, take, drop};
-ghost use Rattle.base.specs.Refusals.{checked_of};
+ghost use Rattle.base.specs.Refusals.{outcome_of};
 ghost use Rattle.base.specs.Lists.{any, place};
-ghost use Rattle.queue.specs.Queue.{queue_of, holding, is_of, joined_over, queue_check, enqueued_of, enqueue_rule, removed_of, taking, remove_rule, batch_of, parting, batch_rule, wait_of, waited_of, first_wait, wait_rule};
+ghost use Rattle.queue.specs.Queue.{queue_of, holding, is_of, joined_over, queue_check, enqueued_of, enqueue_rule, removed_of, taking, remove_rule, batch_of, parting, batch_rule, first_wait, wait_rule};
 ghost use Rattle.queue.specs.Columns.{columns_of};
 
-use base::{Checked, Refusal};
+use base::Refusal;
 
 // Times and waits.
 pub mod time;
@@ -35,21 +35,14 @@ pub struct Queue {
 #[derive(Clone, Copy)]
 pub struct Enqueued {
     pub queue: Queue,
-    pub answer: Checked,
+    pub answer: Result<(), Refusal>,
 }
 
-// The entry that a removal took.
-#[derive(Clone, Copy)]
-pub enum Taken {
-    Refused(Refusal),
-    Nobody,
-    Entry(QueueEntry),
-}
-
+// The queue that a removal left, and the entry that it took, if there was one.
 #[derive(Clone, Copy)]
 pub struct Removed {
     pub queue: Queue,
-    pub taken: Taken,
+    pub taken: Result<Option<QueueEntry>, Refusal>,
 }
 
 // Who stays and who leaves.
@@ -57,20 +50,7 @@ pub struct Removed {
 pub struct Batch {
     pub kept: Queue,
     pub removed: Queue,
-    pub answer: Checked,
-}
-
-// The wait of a player's first entry.
-#[derive(Clone, Copy)]
-pub enum Waited {
-    Nobody,
-    Of(u64),
-}
-
-// The player at each place.
-#[derive(Clone, Copy)]
-pub struct Players {
-    pub ids: [u64; 64],
+    pub answer: Result<(), Refusal>,
 }
 
 // The player and the joined time at each place.
@@ -80,44 +60,21 @@ pub struct Columns {
     pub joined: [u64; 64],
 }
 
-// How long a player has waited.
-#[derive(Clone, Copy)]
-pub enum Wait {
-    Refused(Refusal),
-    Nobody,
-    Of(u64),
+// Is a joined time above 2^53 among these?
+fn any_joined_over(entries: &[QueueEntry]) -> bool
+    ensures { result ≡ any joined_over entries.now }
+{
+    entries.iter().any(|entry| time::is_over(entry.joined))
 }
 
-// Is a joined time above 2^53 among the first n entries?
-fn any_joined_over(entries: [QueueEntry; 64], n: usize) -> bool
-    requires { n ≤ 64 }
-    ensures { result ≡ any joined_over (take n entries) }
+// The place of the player's first entry, or their number.
+fn place_of(entries: &[QueueEntry], player: u64) -> usize
+    ensures { result ≡ place (is_of player) entries.now }
 {
-    let mut i: usize = 0;
-    while i < n {
-        let e = entries[i];
-        if time::is_over(e.joined) {
-            return true;
-        }
-        i += 1;
-    }
-    false
-}
-
-// The place of the player's first entry among the first n, or n.
-fn place_of(entries: [QueueEntry; 64], n: usize, player: u64) -> usize
-    requires { n ≤ 64 }
-    ensures { result ≡ place (is_of player) (take n entries) }
-{
-    let mut i: usize = 0;
-    while i < n {
-        let e = entries[i];
-        if e.player == player {
-            return i;
-        }
-        i += 1;
-    }
-    i
+    entries
+        .iter()
+        .position(|entry| entry.player == player)
+        .unwrap_or(entries.len())
 }
 
 // The first n entries without the one at `at`, moved up by one.
@@ -126,14 +83,12 @@ fn closed_up(entries: [QueueEntry; 64], n: usize, at: usize) -> Queue
     ensures { queue_of result ≡ holding (take at (take n entries) ++ drop (at + 1) (take n entries)) }
 {
     let mut out = entries;
-    let mut k = at;
-    while k + 1 < n {
+    for k in at..n - 1 {
         out[k] = entries[k + 1];
-        k += 1;
     }
     Queue {
         entries: out,
-        len: k,
+        len: n - 1,
     }
 }
 
@@ -149,81 +104,60 @@ impl Queue {
             party: 0,
             role: 0,
         };
-        let entries = [entry; 64];
         Queue {
-            entries: entries,
+            entries: [entry; 64],
             len: 0,
         }
     }
 
     // Refusals 1 and 4 of a queue that is handed in.
-    pub fn check(self) -> Checked
-        ensures { checked_of result ≡ queue_check (queue_of self) }
+    pub fn check(self) -> Result<(), Refusal>
+        ensures { outcome_of result ≡ queue_check (queue_of self) }
     {
         let n = self.len;
         if 64 < n {
-            return Checked::Refused(Refusal::OverLimit);
+            return Err(Refusal::OverLimit);
         }
-        let entries = self.entries;
-        if any_joined_over(entries, n) {
-            return Checked::Refused(Refusal::Clock);
+        if any_joined_over(&self.entries[..n]) {
+            return Err(Refusal::Clock);
         }
-        Checked::Passed
+        Ok(())
     }
 
     // The player at each place, read once.
-    pub fn players(self) -> Players
-        ensures { result.ids ≡ map (λ e. e.player) self.entries }
+    pub fn players(self) -> [u64; 64]
+        ensures { result ≡ map (λ e. e.player) self.entries }
     {
-        let entries = self.entries;
-        let mut ids = [0; 64];
-        let mut i: usize = 0;
-        while i < 64 {
-            let e = entries[i];
-            ids[i] = e.player;
-            i += 1;
-        }
-        Players { ids: ids }
+        self.entries.map(|entry| entry.player)
     }
 
     // The player and the joined time at each place, read once.
     pub fn columns(self) -> Columns
         ensures { result ≡ columns_of self }
     {
-        let mut columns = Columns {
-            players: [0; 64],
-            joined: [0; 64],
-        };
-        let mut k: usize = 0;
-        while k < 64 {
-            let e = self.entries[k];
-            columns.players[k] = e.player;
-            columns.joined[k] = e.joined;
-            k += 1;
+        Columns {
+            players: self.entries.map(|entry| entry.player),
+            joined: self.entries.map(|entry| entry.joined),
         }
-        columns
     }
 
     // Is a joined time above 2^53? Whatever length is stated.
     pub fn has_joined_over(self) -> bool
         ensures { result ≡ any joined_over (queue_of self).entries }
     {
-        let entries = self.entries;
-        any_joined_over(entries, base::at_most(self.len, 64))
+        any_joined_over(&self.entries[..base::at_most(self.len, 64)])
     }
 
     // The wait of the player's first entry, and nothing asked of the times.
-    pub fn first_wait(self, player: u64, clock: u64) -> Waited
-        ensures { waited_of result ≡ first_wait player clock (queue_of self).entries }
+    pub fn first_wait(self, player: u64, clock: u64) -> Option<u64>
+        ensures { result ≡ first_wait player clock (queue_of self).entries }
     {
-        let entries = self.entries;
         let n = base::at_most(self.len, 64);
-        let at = place_of(entries, n, player);
+        let at = place_of(&self.entries[..n], player);
         if n <= at {
-            return Waited::Nobody;
+            return None;
         }
-        let e = entries[at];
-        Waited::Of(time::elapsed(clock, e.joined))
+        Some(time::elapsed(clock, self.entries[at].joined))
     }
 
     // Appends an entry.
@@ -234,20 +168,13 @@ impl Queue {
         if 64 <= n {
             return Enqueued {
                 queue: self,
-                answer: Checked::Refused(Refusal::OverLimit),
+                answer: Err(Refusal::OverLimit),
             };
         }
-        let entries = self.entries;
-        if time::is_over(entry.joined) {
+        if time::is_over(entry.joined) || any_joined_over(&self.entries[..n]) {
             return Enqueued {
                 queue: self,
-                answer: Checked::Refused(Refusal::Clock),
-            };
-        }
-        if any_joined_over(entries, n) {
-            return Enqueued {
-                queue: self,
-                answer: Checked::Refused(Refusal::Clock),
+                answer: Err(Refusal::Clock),
             };
         }
         let mut longer = self;
@@ -255,7 +182,7 @@ impl Queue {
         longer.len = n + 1;
         Enqueued {
             queue: longer,
-            answer: Checked::Passed,
+            answer: Ok(()),
         }
     }
 
@@ -265,20 +192,16 @@ impl Queue {
     {
         let entries = self.entries;
         let n = base::at_most(self.len, 64);
-        let at = place_of(entries, n, player);
+        let at = place_of(&entries[..n], player);
         if n <= at {
             return Removed {
-                queue: Queue {
-                    entries: entries,
-                    len: n,
-                },
-                taken: Taken::Nobody,
+                queue: Queue { entries, len: n },
+                taken: Ok(None),
             };
         }
-        let entry = entries[at];
         Removed {
             queue: closed_up(entries, n, at),
-            taken: Taken::Entry(entry),
+            taken: Ok(Some(entries[at])),
         }
     }
 
@@ -286,18 +209,10 @@ impl Queue {
     pub fn remove(self, player: u64) -> Removed
         ensures { removed_of result ≡ remove_rule (queue_of self) player }
     {
-        let n = self.len;
-        if 64 < n {
+        if let Err(refusal) = self.check() {
             return Removed {
                 queue: self,
-                taken: Taken::Refused(Refusal::OverLimit),
-            };
-        }
-        let entries = self.entries;
-        if any_joined_over(entries, n) {
-            return Removed {
-                queue: self,
-                taken: Taken::Refused(Refusal::Clock),
+                taken: Err(refusal),
             };
         }
         self.take_first(player)
@@ -307,23 +222,19 @@ impl Queue {
     pub fn take_all(self, players: &[u64]) -> Batch
         ensures { batch_of result ≡ parting players.now (queue_of self).entries }
     {
-        let entries = self.entries;
         let n = base::at_most(self.len, 64);
-        let mut stay = entries;
-        let mut gone = entries;
+        let mut stay = self.entries;
+        let mut gone = self.entries;
         let mut k: usize = 0;
         let mut m: usize = 0;
-        let mut i: usize = 0;
-        while i < n {
-            let e = entries[i];
-            if base::is_among(players, e.player) {
-                gone[m] = e;
+        for i in 0..n {
+            let entry = self.entries[i];
+            if base::is_among(players, entry.player) {
+                gone[m] = entry;
                 m += 1;
-                i += 1;
             } else {
-                stay[k] = e;
+                stay[k] = entry;
                 k += 1;
-                i += 1;
             }
         }
         Batch {
@@ -335,7 +246,7 @@ impl Queue {
                 entries: gone,
                 len: m,
             },
-            answer: Checked::Passed,
+            answer: Ok(()),
         }
     }
 
@@ -343,41 +254,26 @@ impl Queue {
     pub fn remove_batch(self, players: &[u64]) -> Batch
         ensures { batch_of result ≡ batch_rule (queue_of self) players.now }
     {
-        let n = self.len;
-        if 64 < n {
+        if let Err(refusal) = self.check() {
             return Batch {
                 kept: self,
                 removed: Queue::empty(),
-                answer: Checked::Refused(Refusal::OverLimit),
-            };
-        }
-        let entries = self.entries;
-        if any_joined_over(entries, n) {
-            return Batch {
-                kept: self,
-                removed: Queue::empty(),
-                answer: Checked::Refused(Refusal::Clock),
+                answer: Err(refusal),
             };
         }
         self.take_all(players)
     }
 
     // How long the player has waited, by the first entry.
-    pub fn waiting_time(self, player: u64, clock: u64) -> Wait
-        ensures { wait_of result ≡ wait_rule (queue_of self) player clock }
+    pub fn waiting_time(self, player: u64, clock: u64) -> Result<Option<u64>, Refusal>
+        ensures { outcome_of result ≡ wait_rule (queue_of self) player clock }
     {
         if 64 < self.len {
-            return Wait::Refused(Refusal::OverLimit);
+            return Err(Refusal::OverLimit);
         }
-        if time::is_over(clock) {
-            return Wait::Refused(Refusal::Clock);
+        if time::is_over(clock) || self.has_joined_over() {
+            return Err(Refusal::Clock);
         }
-        if self.has_joined_over() {
-            return Wait::Refused(Refusal::Clock);
-        }
-        match self.first_wait(player, clock) {
-            Waited::Nobody => Wait::Nobody,
-            Waited::Of(nanos) => Wait::Of(nanos),
-        }
+        Ok(self.first_wait(player, clock))
     }
 }

@@ -1,21 +1,10 @@
 // Times in nanoseconds (time.rs).
 ghost use Rattle.std.specs.Prelude.{◌≡◌};
 ghost use Rattle.base.specs.Lists.{any};
-ghost use Rattle.queue.specs.Time.{time_over, since, seconds_of, duration_of, duration_rule, seconds_given, seconds_rule};
+ghost use Rattle.base.specs.Refusals.{outcome_of};
+ghost use Rattle.queue.specs.Time.{time_over, since, seconds_of, duration_rule, seconds_rule};
 
 use base::Refusal;
-
-#[derive(Clone, Copy)]
-pub enum Duration {
-    Refused(Refusal),
-    Of(u64),
-}
-
-#[derive(Clone, Copy)]
-pub enum Seconds {
-    Refused(Refusal),
-    Of(f64),
-}
 
 // Is this time above 2^53 ns?
 pub fn is_over(t: u64) -> bool
@@ -29,10 +18,8 @@ pub fn any_over(times: &[u64]) -> bool
     ensures { result ≡ any time_over times.now }
 {
     let mut found = false;
-    let mut i: usize = 0;
-    while i < times.len() {
-        found = found | is_over(times[i]);
-        i += 1;
+    for t in times {
+        found |= is_over(*t);
     }
     found
 }
@@ -41,13 +28,11 @@ pub fn any_over(times: &[u64]) -> bool
 pub fn elapsed(later: u64, earlier: u64) -> u64
     ensures { result ≡ since later earlier }
 {
-    if later < earlier {
-        return 0;
-    }
-    later - earlier
+    later.saturating_sub(earlier)
 }
 
 // Nanoseconds in seconds.
+#[tactic(auto, unfolding(crate::specs::Time::seconds_of))]
 pub fn in_seconds(nanos: u64) -> f64
     ensures { result ≡ seconds_of nanos }
 {
@@ -55,24 +40,21 @@ pub fn in_seconds(nanos: u64) -> f64
 }
 
 // Refuses with 4 where a time is above 2^53.
-pub fn duration_since(later: u64, earlier: u64) -> Duration
-    ensures { duration_of result ≡ duration_rule later earlier }
+pub fn duration_since(later: u64, earlier: u64) -> Result<u64, Refusal>
+    ensures { outcome_of result ≡ duration_rule later earlier }
 {
-    if is_over(later) {
-        return Duration::Refused(Refusal::Clock);
+    if is_over(later) || is_over(earlier) {
+        return Err(Refusal::Clock);
     }
-    if is_over(earlier) {
-        return Duration::Refused(Refusal::Clock);
-    }
-    Duration::Of(elapsed(later, earlier))
+    Ok(elapsed(later, earlier))
 }
 
 // Refuses with 4 where the time is above 2^53.
-pub fn as_secs_f64(nanos: u64) -> Seconds
-    ensures { seconds_given result ≡ seconds_rule nanos }
+pub fn as_secs_f64(nanos: u64) -> Result<f64, Refusal>
+    ensures { outcome_of result ≡ seconds_rule nanos }
 {
     if is_over(nanos) {
-        return Seconds::Refused(Refusal::Clock);
+        return Err(Refusal::Clock);
     }
-    Seconds::Of(in_seconds(nanos))
+    Ok(in_seconds(nanos))
 }

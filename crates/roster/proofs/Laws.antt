@@ -3,19 +3,19 @@ use Prim.Native.Nat.{ℕ, zero, suc, ◌+◌, ◌≤◌, ◌<◌}
 use mathlib.Core.Path.{◌≡◌, refl, sym, ap, ◌∙◌}
 use mathlib.Core.Bool.{Bool, true, false, cond, ◌&&◌}
 use mathlib.Core.List.{List, [], ◌∷◌, map}
-use mathlib.Core.Option.{none, some}
+use Rattle.std.specs.Prelude.{None, Some}
 use native.Mathlib.Numerals.{add-one}
 use native.Mathlib.Nat.{le_of_suc-le-suc, not-suc-le-zero}
 use native.Mathlib.Omega.{arith}
 use borrow.Author.Tests.{lt-ltb, le-ltb, ltb-true, ltb-false, eq-eqb, ne_eqb, eqb-true}
 use lib.Dec.{eqb, ltb}
 use lib.ListN.{length, take, drop, get_or, drop_of_length-le}
-use lib.Seq.{drop-cons, take_all}
+use lib.Seq.{drop-cons}
 use Rattle.base.specs.Lists.{seek, any, every, place, member, distinct}
 use Rattle.base.specs.Sheets.{laid}
-use Rattle.base.specs.Refusals.{Outcome, refused, gives, refusal_number, checked_of}
-use Rattle.base.specs.declared.Checked.{Checked}
-use Rattle.base.specs.declared.Checked.TheVariants.{Passed, Refused}
+use Rattle.base.specs.Refusals.{Outcome, refused, gives, refusal_number, outcome_of}
+use Rattle.std.specs.Prelude.{Result}
+use Rattle.std.specs.Prelude.{Ok, Err}
 use Rattle.base.specs.declared.Refusal.{Refusal}
 use Rattle.base.proofs.Cases.{cases, never}
 use Rattle.roster.specs.Ascending.{ascends_from, ascends}
@@ -67,13 +67,6 @@ module _ (p : ℕ) (ids : List ℕ) (i : ℕ) {v : ℕ} (inv : v ≡ i + row_of 
       let z : row_of p (drop i ids) ≡ suc (row_of p (drop (i + 1) ids)) = rw (drop-cons ids i 0 h, ne_eqb (get_or ids i 0) p e, add-one i) in
       omega arith
 
-  -- no row is left
-  pub row_end : length ids ≤ i → i ≡ v
-  unfolding place
-  row_end h =
-      let z : row_of p (drop i ids) ≡ 0 = rw (drop_of_length-le ids h) in
-      omega arith
-
 -- ---- the row of a player where nobody has two rows
 
 -- who stands in a later row is not in the first
@@ -98,29 +91,29 @@ only_row p (id ∷ ids) (suc i) d h e =
 -- ---- rows onto a sheet
 
 -- what comes of a sheet behind a check
-module _ (ids players sheet : List ℕ) (k : Checked) {o : Outcome Unit} where
-  pub found_refused : {x : Refusal} → k ≡ Refused x → checked_of k ≡ o → sheet ≡ found_rows o ids players sheet
+module _ (ids players sheet : List ℕ) (k : Result Unit Refusal) {o : Outcome Unit} where
+  pub found_refused : {x : Refusal} → k ≡ Err x → outcome_of k ≡ o → sheet ≡ found_rows o ids players sheet
   found_refused e h = rw (← h, e)
 
-  pub found_passed : k ≡ Passed → checked_of k ≡ o → laid sheet 0 (take (length sheet) (map (λ p. row_of p ids) players)) ≡ found_rows o ids players sheet
+  pub found_passed : k ≡ Ok tt → outcome_of k ≡ o → laid sheet 0 (take (length sheet) (map (λ p. row_of p ids) players)) ≡ found_rows o ids players sheet
   found_passed e h = rw (← h, e)
 
   -- for a caller: behind a check that passes the sheet holds the players' rows
-  pub found_laid : {asked rows : List ℕ} → asked ≡ players → k ≡ Passed → checked_of k ≡ o → rows ≡ found_rows o ids asked sheet → rows ≡ laid sheet 0 (take (length sheet) (map (λ p. row_of p ids) players))
+  pub found_laid : {asked rows : List ℕ} → asked ≡ players → k ≡ Ok tt → outcome_of k ≡ o → rows ≡ found_rows o ids asked sheet → rows ≡ laid sheet 0 (take (length sheet) (map (λ p. row_of p ids) players))
   found_laid a e h f = f ∙ ap (λ (l : List ℕ). found_rows o ids l sheet) a ∙ sym (found_passed e h)
 
 -- ---- what a column says in a row
 
 module _ {A : Type 0} where
   -- the column goes so far
-  pub value_row : (xs : List A) (row : ℕ) (d : A) → row < length xs → value_at xs row ≡ some (get_or xs row d)
+  pub value_row : (xs : List A) (row : ℕ) (d : A) → row < length xs → value_at xs row ≡ Some (get_or xs row d)
   unfolding value_at
   value_row [] row d h = absurd (not-suc-le-zero h)
   value_row (x ∷ xs) zero d h = refl
   value_row (x ∷ xs) (suc row) d h = value_row xs row d (le_of_suc-le-suc h)
 
   -- it ends before
-  pub value_none : (xs : List A) (row : ℕ) → length xs ≤ row → value_at xs row ≡ none
+  pub value_none : (xs : List A) (row : ℕ) → length xs ≤ row → value_at xs row ≡ None
   unfolding value_at
   value_none [] row h = refl
   value_none (x ∷ xs) zero h = absurd (not-suc-le-zero h)
@@ -138,7 +131,7 @@ module _ {A : Type 0} where
 
 module _ {A : Type 0} (p : ℕ) where
   -- where the player's row is in both columns, the column says what stands in that row
-  pub observe_row : (ids : List ℕ) (xs : List A) (d : A) → row_of p ids < length ids → row_of p ids < length xs → observe ids xs p ≡ some (get_or xs (row_of p ids) d)
+  pub observe_row : (ids : List ℕ) (xs : List A) (d : A) → row_of p ids < length ids → row_of p ids < length xs → observe ids xs p ≡ Some (get_or xs (row_of p ids) d)
   unfolding observe place
   observe_row [] xs d h k = absurd (not-suc-le-zero h)
   observe_row (id ∷ ids) [] d h k = absurd (not-suc-le-zero k)
@@ -147,7 +140,7 @@ module _ {A : Type 0} (p : ℕ) where
       (λ f. rw f (observe_row ids xs d (le_of_suc-le-suc (rw f at h)) (le_of_suc-le-suc (rw f at k))))
 
   -- where the player has no row, the column says nothing
-  pub observe_no_row : (ids : List ℕ) (xs : List A) → length ids ≤ row_of p ids → observe ids xs p ≡ none
+  pub observe_no_row : (ids : List ℕ) (xs : List A) → length ids ≤ row_of p ids → observe ids xs p ≡ None
   unfolding observe place
   observe_no_row [] xs h = refl
   observe_no_row (id ∷ ids) [] h = refl
@@ -156,7 +149,7 @@ module _ {A : Type 0} (p : ℕ) where
       (λ f. rw f (observe_no_row ids xs (le_of_suc-le-suc (rw f at h))))
 
   -- where the column ends above the player's row, it says nothing
-  pub observe_short : (ids : List ℕ) (xs : List A) → length xs ≤ row_of p ids → observe ids xs p ≡ none
+  pub observe_short : (ids : List ℕ) (xs : List A) → length xs ≤ row_of p ids → observe ids xs p ≡ None
   unfolding observe place
   observe_short [] xs h = refl
   observe_short (id ∷ ids) [] h = refl
@@ -165,7 +158,7 @@ module _ {A : Type 0} (p : ℕ) where
       (λ f. rw f (observe_short ids xs (le_of_suc-le-suc (rw f at h))))
 
   -- of a player who is not in the ids no column says anything
-  pub observe_absent : (ids : List ℕ) (xs : List A) → member p ids ≡ false → observe ids xs p ≡ none
+  pub observe_absent : (ids : List ℕ) (xs : List A) → member p ids ≡ false → observe ids xs p ≡ None
   unfolding observe seek
   observe_absent [] xs h = refl
   observe_absent (id ∷ ids) [] h = refl
@@ -173,15 +166,15 @@ module _ {A : Type 0} (p : ℕ) where
       cases (eqb id p) (λ t. never (let e : true ≡ false = rw t at h in cc)) (λ f. rw f (observe_absent ids xs (rw f at h)))
 
   -- a column as long as the ids is silent only of a player who is not in the ids
-  pub observe_silent : (ids : List ℕ) (xs : List A) → length ids ≡ length xs → observe ids xs p ≡ none → member p ids ≡ false
+  pub observe_silent : (ids : List ℕ) (xs : List A) → length ids ≡ length xs → observe ids xs p ≡ None → member p ids ≡ false
   unfolding observe seek
   observe_silent [] xs l h = refl
   observe_silent (id ∷ ids) [] l h = absurd (omega arith)
   observe_silent (id ∷ ids) (x ∷ xs) l h =
-      cases (eqb id p) (λ t. never (let e : some x ≡ none = rw t at h in cc)) (λ f. rw f (observe_silent ids xs (omega arith) (rw f at h)))
+      cases (eqb id p) (λ t. never (let e : Some x ≡ None = rw t at h in cc)) (λ f. rw f (observe_silent ids xs (omega arith) (rw f at h)))
 
   -- where the columns are of equal length, a column says nothing of a player exactly where the player is not in the ids
-  pub observe_none : (ids : List ℕ) (xs : List A) → length ids ≡ length xs → (observe ids xs p ≡ none → member p ids ≡ false) × (member p ids ≡ false → observe ids xs p ≡ none)
+  pub observe_none : (ids : List ℕ) (xs : List A) → length ids ≡ length xs → (observe ids xs p ≡ None → member p ids ≡ false) × (member p ids ≡ false → observe ids xs p ≡ None)
   observe_none ids xs l = (observe_silent ids xs l, observe_absent ids xs)
 
 -- ---- each id against the later ones
@@ -225,22 +218,19 @@ with_true : (p : Bool) → (p && true) ≡ p
 with_true true = refl
 with_true false = refl
 
-module _ (rising : Bool) (x : ℕ) (xs : List ℕ) (i : ℕ) (inv : ascends xs ≡ (rising && ascends_from x (drop i xs))) where
+-- v is what the whole pass gives: what went by ascends, and the rest ascends from the last id
+module _ (rising : Bool) (x : ℕ) (xs : List ℕ) (i : ℕ) {v : Bool} (inv : v ≡ (rising && ascends_from x (drop i xs))) where
   -- the id at i is the last now
-  pub ascends_on : i < length xs → ascends xs ≡ ((rising && ltb x (get_or xs i 0)) && ascends_from (get_or xs i 0) (drop (i + 1) xs))
+  pub ascends_on : i < length xs → v ≡ ((rising && ltb x (get_or xs i 0)) && ascends_from (get_or xs i 0) (drop (i + 1) xs))
   unfolding ascends_from
-  ascends_on h = inv ∙ rw (drop-cons xs i 0 h, add-one) (both rising (ltb x (get_or xs i 0)) _)
+  ascends_on h = inv ∙ rw (drop-cons xs i 0 h, add-one i) (both rising (ltb x (get_or xs i 0)) _)
 
   -- no id is left
-  pub ascends_end : length xs ≤ i → rising ≡ ascends xs
+  pub ascends_end : length xs ≤ i → rising ≡ v
   unfolding ascends_from
   ascends_end h = sym (inv ∙ rw (drop_of_length-le xs h) (with_true rising))
 
 -- ---- refusals 1 and 2
-
--- a count over the array's five counts all five
-pub five_at_most : (ls : List ℕ) (count n : ℕ) → length ls ≡ 5 → 5 < count → n ≡ 5 → take n ls ≡ take count ls
-five_at_most ls count n l h e = take_all n ls (omega arith) ∙ sym (take_all count ls (omega arith))
 
 -- the check of so many rows and of the other columns' lengths
 module _ (rows : ℕ) (ls : List ℕ) where
@@ -325,22 +315,22 @@ even_first n l ls h =
     cases (eqb l n) (λ t. (eqb-true l n t, rw t at h)) (λ f. never (let z : false ≡ true = rw f at h in cc))
 
 -- what comes of the check of the lengths
-module _ (ids ls : List ℕ) (k : Checked) (h : checked_of k ≡ lengths_check (length ids) ls) where
+module _ (ids ls : List ℕ) (k : Result Unit Refusal) (h : outcome_of k ≡ lengths_check (length ids) ls) where
   -- it refuses: so does the whole check, by the same number
-  pub refused_by_length : {x : Refusal} → k ≡ Refused x → checked_of k ≡ columns_check ids ls []
+  pub refused_by_length : {x : Refusal} → k ≡ Err x → outcome_of k ≡ columns_check ids ls []
   unfolding seek
   refused_by_length {x} e =
       rw e
       (lengths_refused (any too_long (length ids ∷ ls)) (every (λ n. eqb n (length ids)) ls) (distinct ids) true (refusal_number x) (rw e at h))
 
   -- it passes: the ids decide
-  pub ids_decide : k ≡ Passed → {t : Bool} → distinct ids ≡ t → cond t (gives tt) (refused 2) ≡ columns_check ids ls []
+  pub ids_decide : k ≡ Ok tt → {t : Bool} → distinct ids ≡ t → cond t (gives tt) (refused 2) ≡ columns_check ids ls []
   unfolding seek
   ids_decide e f =
       rw (← f) (lengths_passed (any too_long (length ids ∷ ls)) (every (λ n. eqb n (length ids)) ls) (distinct ids) (rw e at h))
 
   -- it passes: there are 128 ids at most
-  pub ids_few : k ≡ Passed → length ids ≤ 128
+  pub ids_few : k ≡ Ok tt → length ids ≤ 128
   unfolding seek
   ids_few e =
       let o : any too_long (length ids ∷ ls) ≡ false = lengths_short (any too_long (length ids ∷ ls)) (every (λ n. eqb n (length ids)) ls) (rw e at h) in
@@ -348,17 +338,17 @@ module _ (ids ls : List ℕ) (k : Checked) (h : checked_of k ≡ lengths_check (
 
 module _ (ids ls codes : List ℕ) where
   -- a roster that passes its check has columns as long as the ids
-  pub passed_even : (k : Checked) → k ≡ Passed → checked_of k ≡ columns_check ids ls codes → every (λ n. eqb n (length ids)) ls ≡ true
+  pub passed_even : (k : Result Unit Refusal) → k ≡ Ok tt → outcome_of k ≡ columns_check ids ls codes → every (λ n. eqb n (length ids)) ls ≡ true
   passed_even k e h =
       verdict_even (any too_long (length ids ∷ ls)) (every (λ n. eqb n (length ids)) ls) (distinct ids) (every is_region codes) (rw e at h)
 
   -- a roster that passes its check has nobody in two rows
-  pub passed_distinct : (k : Checked) → k ≡ Passed → checked_of k ≡ columns_check ids ls codes → distinct ids ≡ true
+  pub passed_distinct : (k : Result Unit Refusal) → k ≡ Ok tt → outcome_of k ≡ columns_check ids ls codes → distinct ids ≡ true
   passed_distinct k e h =
       verdict_distinct (any too_long (length ids ∷ ls)) (every (λ n. eqb n (length ids)) ls) (distinct ids) (every is_region codes) (rw e at h)
 
   -- what is refused without the regions is refused with them, by the same number
-  pub refused_still : (r : Checked) {x : Refusal} → r ≡ Refused x → checked_of r ≡ columns_check ids ls [] → checked_of r ≡ columns_check ids ls codes
+  pub refused_still : (r : Result Unit Refusal) {x : Refusal} → r ≡ Err x → outcome_of r ≡ columns_check ids ls [] → outcome_of r ≡ columns_check ids ls codes
   unfolding seek
   refused_still r {x} e h =
       rw e
@@ -366,7 +356,7 @@ module _ (ids ls codes : List ℕ) where
       (rw e at h))
 
   -- what passes without the regions is left to the regions
-  pub regions_decide : (r : Checked) → r ≡ Passed → checked_of r ≡ columns_check ids ls [] → {t : Bool} → every is_region codes ≡ t → cond t (gives tt) (refused 2) ≡ columns_check ids ls codes
+  pub regions_decide : (r : Result Unit Refusal) → r ≡ Ok tt → outcome_of r ≡ columns_check ids ls [] → {t : Bool} → every is_region codes ≡ t → cond t (gives tt) (refused 2) ≡ columns_check ids ls codes
   unfolding seek
   regions_decide r e h f =
       rw (← f) (verdict_passed (any too_long (length ids ∷ ls)) (every (λ n. eqb n (length ids)) ls) (distinct ids) (every is_region codes) (rw e at h))

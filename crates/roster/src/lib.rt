@@ -2,17 +2,18 @@
 #![tactic(auto)]
 
 ghost use Rattle.std.specs.Prelude.{◌≡◌, true, [], map, ◌≤◌, ◌+◌, ◌*◌, eqb, length, take, drop};
-ghost use Rattle.base.specs.Refusals.{checked_of};
-ghost use Rattle.std.proofs.Math.Option.{get_or};
+ghost use Rattle.base.specs.Refusals.{outcome_of};
+ghost use Rattle.std.specs.Prelude.{unwrap_or};
 ghost use Rattle.base.specs.Floats as Floats;
-ghost use Rattle.base.specs.Lists.{any, every, distinct, is_some};
+ghost use Rattle.base.specs.Lists.{any, every, distinct};
+ghost use Rattle.std.specs.Prelude.{is_some};
 ghost use Rattle.base.specs.Sheets.{laid};
 ghost use Rattle.roster.specs.Ascending.{ascends};
-ghost use Rattle.roster.specs.Roster.{of_ratings, of_deviations, of_parties, of_roles, of_regions, of_rules, party_of, role_of, region_of, rules_check, too_long, is_region, columns_check, ratings_check, deviations_check, roster_check, row_of, observe, observed_of};
+ghost use Rattle.roster.specs.Roster.{of_ratings, of_deviations, of_parties, of_roles, of_regions, of_rules, party_of, role_of, region_of, rules_check, too_long, is_region, columns_check, ratings_check, deviations_check, roster_check, row_of, observe};
 ghost use Rattle.roster.specs.Rows.{found_rows, value_at};
 ghost use Rattle.roster.specs.Steps.{lengths_check};
 
-use base::{Checked, Refusal};
+use base::Refusal;
 
 // Rows by their ids, in a table.
 mod table;
@@ -20,47 +21,16 @@ mod table;
 // What a column says of many players.
 pub mod places;
 
-// What a column of floats says of a player.
-#[derive(Clone, Copy)]
-pub enum Observed {
-    Of(f64),
-    Nothing,
-}
-
-impl Observed {
-    // Does it say something?
-    pub fn is_something(self) -> bool
-        ensures { result ≡ is_some (observed_of self) }
-    {
-        match self {
-            Observed::Of(_) => true,
-            Observed::Nothing => false,
-        }
-    }
-
-    // What it says, or 0.0.
-    pub fn or_zero(self) -> f64
-        ensures { result ≡ get_or (observed_of self) Floats.zero }
-    {
-        match self {
-            Observed::Of(x) => x,
-            Observed::Nothing => 0.0,
-        }
-    }
-}
-
 // ---- are the ids all different?
 
 // Each id against all later ones.
 fn differ_pairwise(ids: &[u64]) -> bool
     ensures { result ≡ distinct ids.now }
 {
-    let mut i: usize = 0;
-    while i < ids.len() {
+    for i in 0..ids.len() {
         if base::is_among(&ids[i + 1..], ids[i]) {
             return false;
         }
-        i += 1;
     }
     true
 }
@@ -74,38 +44,23 @@ fn ascend(ids: &[u64]) -> bool
     }
     let mut last = ids[0];
     let mut rising = true;
-    let mut i: usize = 1;
-    while i < ids.len() {
-        let id = ids[i];
-        rising = rising & (last < id);
+    for &id in &ids[1..] {
+        rising &= last < id;
         last = id;
-        i += 1;
     }
     rising
 }
 
 // Do the first ids rise? Few that are in no order do so.
 fn rise_at_first(ids: &[u64]) -> bool {
-    if ids.len() < 4 {
-        return true;
-    }
-    if ids[1] <= ids[0] {
-        return false;
-    }
-    if ids[2] <= ids[1] {
-        return false;
-    }
-    ids[2] < ids[3]
+    ids.len() < 4 || (ids[0] < ids[1] && ids[1] < ids[2] && ids[2] < ids[3])
 }
 
 // Are the ids seen to differ by a glance and a pass, since they ascend?
 fn differ_by_order(ids: &[u64]) -> bool
     ensures { result ≡ true → distinct ids.now ≡ true }
 {
-    if !rise_at_first(ids) {
-        return false;
-    }
-    ascend(ids)
+    rise_at_first(ids) && ascend(ids)
 }
 
 // Ascending ids differ, and that takes one pass; others go into a table, or are held against each other where they are too many for it.
@@ -123,117 +78,78 @@ pub fn all_different(ids: &[u64]) -> bool
 
 // ---- refusals 1 and 2
 
-// Is a length among the first `count` over 128?
-fn any_too_long(lengths: [usize; 5], count: usize) -> bool
-    requires { count ≤ 5 }
-    ensures { result ≡ any too_long (take count lengths) }
+// Is one of the lengths over 128?
+fn any_too_long(lengths: &[usize]) -> bool
+    ensures { result ≡ any too_long lengths.now }
 {
-    let mut i: usize = 0;
-    while i < count {
-        if 128 < lengths[i] {
-            return true;
-        }
-        i += 1;
-    }
-    false
+    lengths.iter().any(|&n| 128 < n)
 }
 
-// Are the first `count` lengths all `rows`?
-fn all_of_length(lengths: [usize; 5], count: usize, rows: usize) -> bool
-    requires { count ≤ 5 }
-    ensures { result ≡ every (λ n. eqb n rows) (take count lengths) }
+// Are the lengths all `rows`?
+fn all_of_length(lengths: &[usize], rows: usize) -> bool
+    ensures { result ≡ every (λ n. eqb n rows) lengths.now }
 {
-    let mut i: usize = 0;
-    while i < count {
-        if lengths[i] != rows {
-            return false;
-        }
-        i += 1;
-    }
-    true
+    lengths.iter().all(|&n| n == rows)
 }
 
 // Are these all region codes?
 pub fn are_regions(codes: &[u8]) -> bool
     ensures { result ≡ every is_region codes.now }
 {
-    let mut i: usize = 0;
-    while i < codes.len() {
-        if 4 < codes[i] {
-            return false;
-        }
-        i += 1;
-    }
-    true
+    codes.iter().all(|&code| code <= 4)
 }
 
-// The checks of the lengths of the ids and of the first `count` other columns.
-fn check_lengths(rows: usize, lengths: [usize; 5], count: usize) -> Checked
-    ensures { checked_of result ≡ lengths_check rows (take count lengths) }
+// The checks of the lengths of the ids and of the other columns.
+fn check_lengths(rows: usize, lengths: &[usize]) -> Result<(), Refusal>
+    ensures { outcome_of result ≡ lengths_check rows lengths.now }
 {
-    let mut n = count;
-    if 5 < n {
-        n = 5;
+    if 128 < rows || any_too_long(lengths) {
+        return Err(Refusal::OverLimit);
     }
-    if 128 < rows {
-        return Checked::Refused(Refusal::OverLimit);
+    if !all_of_length(lengths, rows) {
+        return Err(Refusal::BadRoster);
     }
-    if any_too_long(lengths, n) {
-        return Checked::Refused(Refusal::OverLimit);
-    }
-    if !all_of_length(lengths, n, rows) {
-        return Checked::Refused(Refusal::BadRoster);
-    }
-    Checked::Passed
+    Ok(())
 }
 
-// The checks of the ids and of the lengths of the first `count` other columns.
-pub fn check_columns(ids: &[u64], lengths: [usize; 5], count: usize) -> Checked
-    ensures { checked_of result ≡ columns_check ids.now (take count lengths) [] }
+// The checks of the ids and of the lengths of the other columns.
+pub fn check_columns(ids: &[u64], lengths: &[usize]) -> Result<(), Refusal>
+    ensures { outcome_of result ≡ columns_check ids.now lengths.now [] }
 {
-    let even = check_lengths(ids.len(), lengths, count);
-    let Checked::Passed = even else {
-        return even;
-    };
+    check_lengths(ids.len(), lengths)?;
     if !all_different(ids) {
-        return Checked::Refused(Refusal::BadRoster);
+        return Err(Refusal::BadRoster);
     }
-    Checked::Passed
+    Ok(())
 }
 
 // The same with a column of regions, whose length is among `lengths`.
 pub fn check_columns_with_regions(
     ids: &[u64],
-    lengths: [usize; 5],
-    count: usize,
+    lengths: &[usize],
     regions: &[u8],
-) -> Checked
-    ensures { checked_of result ≡ columns_check ids.now (take count lengths) regions.now }
+) -> Result<(), Refusal>
+    ensures { outcome_of result ≡ columns_check ids.now lengths.now regions.now }
 {
-    let columns = check_columns(ids, lengths, count);
-    let Checked::Passed = columns else {
-        return columns;
-    };
+    check_columns(ids, lengths)?;
     if !are_regions(regions) {
-        return Checked::Refused(Refusal::BadRoster);
+        return Err(Refusal::BadRoster);
     }
-    Checked::Passed
+    Ok(())
 }
 
 // A roster of ids and ratings.
-pub fn check_ratings(ids: &[u64], ratings: &[f64]) -> Checked
-    ensures { checked_of result ≡ ratings_check (of_ratings ids.now ratings.now) }
+pub fn check_ratings(ids: &[u64], ratings: &[f64]) -> Result<(), Refusal>
+    ensures { outcome_of result ≡ ratings_check (of_ratings ids.now ratings.now) }
 {
-    let lengths = [ratings.len(), 0, 0, 0, 0];
-    check_columns(ids, lengths, 1)
+    check_columns(ids, &[ratings.len()])
 }
 
 // A roster of ids, ratings and deviations.
-pub fn check_deviations(ids: &[u64], ratings: &[f64], deviations: &[f64]) -> Checked
-    ensures { checked_of result ≡ deviations_check (of_deviations ids.now ratings.now deviations.now) }
+pub fn check_deviations(ids: &[u64], ratings: &[f64], deviations: &[f64]) -> Result<(), Refusal>
+    ensures { outcome_of result ≡ deviations_check (of_deviations ids.now ratings.now deviations.now) }
 {
-    let lengths = [ratings.len(), deviations.len(), 0, 0, 0];
-    check_columns(ids, lengths, 2)
+    check_columns(ids, &[ratings.len(), deviations.len()])
 }
 
 // The columns that constraints read.
@@ -243,11 +159,11 @@ pub fn check_rules(
     parties: &[u64],
     roles: &[u32],
     regions: &[u8],
-) -> Checked
-    ensures { checked_of result ≡ rules_check (of_rules ids.now ratings.now parties.now roles.now regions.now) }
+) -> Result<(), Refusal>
+    ensures { outcome_of result ≡ rules_check (of_rules ids.now ratings.now parties.now roles.now regions.now) }
 {
-    let lengths = [ratings.len(), parties.len(), roles.len(), regions.len(), 0];
-    check_columns_with_regions(ids, lengths, 4, regions)
+    let lengths = [ratings.len(), parties.len(), roles.len(), regions.len()];
+    check_columns_with_regions(ids, &lengths, regions)
 }
 
 // A whole roster.
@@ -258,8 +174,8 @@ pub fn check_roster(
     parties: &[u64],
     roles: &[u32],
     regions: &[u8],
-) -> Checked
-    ensures { checked_of result ≡ roster_check (record { ids = ids.entry.now; ratings = ratings.now; deviations = deviations.now; parties = parties.now; roles = roles.now; regions = regions.now }) }
+) -> Result<(), Refusal>
+    ensures { outcome_of result ≡ roster_check (record { ids = ids.now; ratings = ratings.now; deviations = deviations.now; parties = parties.now; roles = roles.now; regions = regions.now }) }
 {
     let lengths = [
         ratings.len(),
@@ -268,36 +184,29 @@ pub fn check_roster(
         roles.len(),
         regions.len(),
     ];
-    check_columns_with_regions(ids, lengths, 5, regions)
+    check_columns_with_regions(ids, &lengths, regions)
 }
 
 // ---- the row of a player
 
-// The player's first row from `from` on, or the number of rows.
-fn row_from(ids: &[u64], from: usize, player: u64) -> usize
-    requires { from ≤ length ids.now }
-    ensures { result ≡ from + row_of player (drop from ids.now) }
+// The player's first row, or the number of rows, one row a turn.
+fn row_one_by_one(ids: &[u64], player: u64) -> usize
+    ensures { result ≡ row_of player ids.now }
 {
-    let mut at = from;
-    while at < ids.len() {
-        if ids[at] == player {
-            return at;
-        }
-        at += 1;
-    }
-    at
+    ids.iter().position(|&id| id == player).unwrap_or(ids.len())
 }
 
 // The player's first row, or the number of rows. Four rows a turn, which is twice as quick as one.
 pub fn row_of(ids: &[u64], player: u64) -> usize
     ensures { result ≡ row_of player ids.now }
 {
-    let mut i: usize = 0;
-    while i + 3 < ids.len() {
-        if ids[i] == player {
-            return i;
+    let fours = ids.len() / 4;
+    for turn in 0..fours {
+        let first = 4 * turn;
+        if ids[first] == player {
+            return first;
         }
-        let second = i + 1;
+        let second = first + 1;
         if ids[second] == player {
             return second;
         }
@@ -309,9 +218,8 @@ pub fn row_of(ids: &[u64], player: u64) -> usize
         if ids[fourth] == player {
             return fourth;
         }
-        i = fourth + 1;
     }
-    row_from(ids, i, player)
+    4 * fours + row_one_by_one(&ids[4 * fours..], player)
 }
 
 // ---- the row of a player where nobody has two rows
@@ -372,10 +280,8 @@ fn row_by_guess(ids: &[u64], player: u64) -> usize
     ensures { result ≡ row_of player ids.now }
 {
     let guess = guessed_row(ids, player);
-    if guess < ids.len() {
-        if ids[guess] == player {
-            return guess;
-        }
+    if guess < ids.len() && ids[guess] == player {
+        return guess;
     }
     row_of(ids, player)
 }
@@ -385,105 +291,79 @@ fn write_rows(ids: &[u64], players: &[u64], rows: &mut [usize])
     requires { distinct ids.now ≡ true }
     ensures { rows.new ≡ laid rows.old 0 (take (length rows.old) (map (λ p. row_of p ids.now) players.now)) }
 {
-    let mut i: usize = 0;
-    while i < players.len() {
-        if rows.len() <= i {
-            return;
-        }
+    for i in 0..players.len().min(rows.len()) {
         rows[i] = row_by_guess(ids, players[i]);
-        i += 1;
     }
 }
 
 // The check of the columns, and where they pass each player's row onto the sheet: one check for many look-ups.
 pub fn checked_rows(
     ids: &[u64],
-    lengths: [usize; 5],
-    count: usize,
+    lengths: &[usize],
     players: &[u64],
     rows: &mut [usize],
-) -> Checked
-    ensures result_value { checked_of result ≡ columns_check ids.now (take count lengths) [] }
-    ensures rows_after { rows.new ≡ found_rows (columns_check ids.now (take count lengths) []) ids.now players.now rows.old }
+) -> Result<(), Refusal>
+    ensures result_value { outcome_of result ≡ columns_check ids.now lengths.now [] }
+    ensures rows_after { rows.new ≡ found_rows (columns_check ids.now lengths.now []) ids.now players.now rows.old }
 {
-    let checked = check_lengths(ids.len(), lengths, count);
-    let Checked::Passed = checked else {
-        return checked;
-    };
+    check_lengths(ids.len(), lengths)?;
     if differ_by_order(ids) {
         write_rows(ids, players, rows);
-        return Checked::Passed;
+        return Ok(());
     }
     if !table::find(ids, players, rows) {
-        return Checked::Refused(Refusal::BadRoster);
+        return Err(Refusal::BadRoster);
     }
-    Checked::Passed
+    Ok(())
 }
 
 // ---- what a column says of a player
 
 // What a column of floats says in this row.
-pub fn observed_at(column: &[f64], row: usize) -> Observed
-    ensures { observed_of result ≡ value_at column.now row }
+pub fn observed_at(column: &[f64], row: usize) -> Option<f64>
+    ensures { result ≡ value_at column.now row }
 {
     if row < column.len() {
-        return Observed::Of(column[row]);
+        return Some(column[row]);
     }
-    Observed::Nothing
+    None
+}
+
+// What a column says of the player.
+fn told<T: Copy>(ids: &[u64], column: &[T], player: u64) -> Option<T>
+    ensures { result ≡ observe ids.now column.now player }
+{
+    let row = row_of(ids, player);
+    if ids.len() <= row || column.len() <= row {
+        return None;
+    }
+    Some(column[row])
 }
 
 // What a column of floats says of the player.
-pub fn observation(ids: &[u64], column: &[f64], player: u64) -> Observed
-    ensures { observed_of result ≡ observe ids.now column.now player }
+pub fn observation(ids: &[u64], column: &[f64], player: u64) -> Option<f64>
+    ensures { result ≡ observe ids.now column.now player }
 {
-    let row = row_of(ids, player);
-    if ids.len() <= row {
-        return Observed::Nothing;
-    }
-    if column.len() <= row {
-        return Observed::Nothing;
-    }
-    Observed::Of(column[row])
+    told(ids, column, player)
 }
 
 // The player's party, 0 where there is none.
 pub fn party_of(ids: &[u64], parties: &[u64], player: u64) -> u64
     ensures { result ≡ party_of (of_parties ids.now parties.now) player }
 {
-    let row = row_of(ids, player);
-    if ids.len() <= row {
-        return 0;
-    }
-    if parties.len() <= row {
-        return 0;
-    }
-    parties[row]
+    told(ids, parties, player).unwrap_or(0)
 }
 
 // The player's role, 0 where there is none.
 pub fn role_of(ids: &[u64], roles: &[u32], player: u64) -> u32
     ensures { result ≡ role_of (of_roles ids.now roles.now) player }
 {
-    let row = row_of(ids, player);
-    if ids.len() <= row {
-        return 0;
-    }
-    if roles.len() <= row {
-        return 0;
-    }
-    roles[row]
+    told(ids, roles, player).unwrap_or(0)
 }
 
 // The player's region, 4 where there is none.
 pub fn region_of(ids: &[u64], regions: &[u8], player: u64) -> u8
     ensures { result ≡ region_of (of_regions ids.now regions.now) player }
 {
-    let row = row_of(ids, player);
-    if ids.len() <= row {
-        return 4;
-    }
-    if regions.len() <= row {
-        return 4;
-    }
-    regions[row]
+    told(ids, regions, player).unwrap_or(4)
 }

@@ -42,6 +42,7 @@ fn last_of(ids: &[u64], before: &[u8; 128], from: usize, id: u64) -> usize
     ensures { result ≡ last_of id ids.now from }
 {
     let mut k = from;
+    // No plain count: each turn goes on to the row that the chain names.
     while 0 < k {
         let row = k - 1;
         if ids[row] == id {
@@ -61,12 +62,10 @@ fn still_differ(ids: &[u64], before: &[u8; 128], from: usize, to: usize) -> bool
     requires ids_value { distinct (take from ids.now) ≡ true }
     ensures { result ≡ distinct (take to ids.now) }
 {
-    let mut i = from;
-    while i < to {
+    for i in from..to {
         if 0 < last_of(ids, before, wide(before[i]), ids[i]) {
             return false;
         }
-        i += 1;
     }
     true
 }
@@ -100,13 +99,11 @@ fn note_from(ids: &[u64], from: usize, last: &mut [u8; 1024], before: &mut [u8; 
     ensures value { result ≡ distinct ids.now }
     ensures noted_2 { result ≡ true → Noted ids.now (length ids.now) last.new before.new }
 {
-    let mut i = from;
-    while i < ids.len() {
+    for i in from..ids.len() {
         let earlier = note(ids, i, last, before);
         if 0 < last_of(ids, before, earlier, ids[i]) {
             return false;
         }
-        i += 1;
     }
     true
 }
@@ -118,14 +115,13 @@ fn note_all(ids: &[u64], last: &mut [u8; 1024], before: &mut [u8; 128]) -> bool
     ensures value { result ≡ distinct ids.now }
     ensures noted_2 { result ≡ true → Noted ids.now (length ids.now) last.new before.new }
 {
-    let mut i: usize = 0;
-    while i + 3 < ids.len() {
-        if !note_four(ids, i, last, before) {
+    let fours = ids.len() / 4;
+    for turn in 0..fours {
+        if !note_four(ids, 4 * turn, last, before) {
             return false;
         }
-        i += 4;
     }
-    note_from(ids, i, last, before)
+    note_from(ids, 4 * fours, last, before)
 }
 
 // Do all ids differ?
@@ -168,13 +164,8 @@ fn write_rows(
     requires noted { Noted ids.now (length ids.now) last.now before.now }
     ensures { rows.new ≡ laid rows.old 0 (take (length rows.old) (map (λ p. row_of p ids.now) players.now)) }
 {
-    let mut i: usize = 0;
-    while i < players.len() {
-        if rows.len() <= i {
-            return;
-        }
+    for i in 0..players.len().min(rows.len()) {
         rows[i] = row_in(ids, last, before, players[i]);
-        i += 1;
     }
 }
 

@@ -4,10 +4,11 @@ use mathlib.Core.Path.{◌≡◌, refl}
 use mathlib.Core.Bool.{Bool, true, false, cond, ◌||◌}
 use borrow.Author.Tests.{ltb-false}
 use lib.Dec.{ltb}
-use Rattle.base.specs.declared.Checked.{Checked}
-use Rattle.base.specs.declared.Checked.TheVariants.{Passed}
+use Rattle.std.specs.Prelude.{Result}
+use Rattle.base.specs.declared.Refusal.{Refusal}
+use Rattle.std.specs.Prelude.{Ok}
 use Rattle.base.specs.Lists.{any}
-use Rattle.base.specs.Refusals.{Outcome, refused, gives, guarded, checked_of}
+use Rattle.base.specs.Refusals.{Outcome, refused, gives, guarded, outcome_of}
 use Rattle.base.proofs.Cases.{never}
 use Rattle.base.proofs.Checks.{neither}
 use Rattle.queue.specs.Queue.{QueueState, joined_over}
@@ -54,7 +55,7 @@ held_of s q players qualities g =
     }
 
 -- what a check that passes tells
-pub passed_check : (s : TeamComposition) (r : Roster) (q : QueueState) (players qualities : ℕ) (k : Checked) → k ≡ Passed → checked_of k ≡ search_check s r q players qualities → Held s q players qualities
+pub passed_check : (s : TeamComposition) (r : Roster) (q : QueueState) (players qualities : ℕ) (k : Result Unit Refusal) → k ≡ Ok tt → outcome_of k ≡ search_check s r q players qualities → Held s q players qualities
 passed_check s r q players qualities k e h =
     let p : gives tt ≡ search_check s r q players qualities = rw e at h in
     held_of s q players qualities (passing (ltb 64 q.size || sizes_over s) (ratings_check r) (are_short players qualities) (any joined_over q.entries) p)
@@ -97,7 +98,7 @@ module _ (s : TeamComposition) (r : Roster) (q : QueueState) (players qualities 
   behind_first v = first_rest (ltb 64 q.size || sizes_over s) (ratings_check r) (are_short players qualities) (any joined_over q.entries) v
 
   -- what a first check that passes tells
-  pub passed_first : (k : Checked) → k ≡ Passed → checked_of k ≡ first_check s r q.size players qualities → Held s q players qualities
+  pub passed_first : (k : Result Unit Refusal) → k ≡ Ok tt → outcome_of k ≡ first_check s r q.size players qualities → Held s q players qualities
   passed_first k e h =
       let p : gives tt ≡ first_check s r q.size players qualities = rw e at h in
       held_of s q players qualities (passing_first (ltb 64 q.size || sizes_over s) (ratings_check r) (are_short players qualities) p)

@@ -4,10 +4,10 @@ use mathlib.Core.Path.{◌≡◌, ap, ◌∙◌}
 use mathlib.Core.List.{List, map}
 use lib.Ieee.{Float}
 use lib.ListN.{length, length-map}
-use Rattle.base.specs.declared.Checked.{Checked}
-use Rattle.base.specs.declared.Checked.TheVariants.{Passed, Refused}
+use Rattle.std.specs.Prelude.{Result}
+use Rattle.std.specs.Prelude.{Ok, Err}
 use Rattle.base.specs.declared.Refusal.{Refusal}
-use Rattle.base.specs.Refusals.{Outcome, refused, gives, guarded, refusal_number, checked_of}
+use Rattle.base.specs.Refusals.{Outcome, refused, gives, guarded, refusal_number, outcome_of}
 use Rattle.base.proofs.Checks.{guard_refuses, guard_passes}
 use Rattle.matchmaker.specs.Quality.{MatchState}
 use Rattle.seating.specs.Seating.{Sheets, HandedOut, seats, handed_out}
@@ -15,13 +15,13 @@ use Rattle.seating.specs.Steps.{overlaid}
 use Rattle.seating.proofs.Laws.{overlaid_fits}
 
 module _ (quality : MatchState → Float) (s : Sheets) where
-  module _ (v : Outcome (List MatchState)) (k : Checked) {o : Outcome Unit} (h : checked_of k ≡ o) where
+  module _ (v : Outcome (List MatchState)) (k : Result Unit Refusal) {o : Outcome Unit} (h : outcome_of k ≡ o) where
     -- a check that refuses is handed out, and the sheets stay
-    pub handed_refused : {x : Refusal} → k ≡ Refused x → record { answer = refused (refusal_number x); sheets = s } ≡ handed_out quality (guarded o v) s
+    pub handed_refused : {x : Refusal} → k ≡ Err x → record { answer = refused (refusal_number x); sheets = s } ≡ handed_out quality (guarded o v) s
     handed_refused e = ap (λ (w : Outcome (List MatchState)). handed_out quality w s) (guard_refuses v k e h)
 
     -- a check that passes leaves it to what comes behind it
-    pub handed_on : {w : HandedOut} → k ≡ Passed → w ≡ handed_out quality v s → w ≡ handed_out quality (guarded o v) s
+    pub handed_on : {w : HandedOut} → k ≡ Ok tt → w ≡ handed_out quality v s → w ≡ handed_out quality (guarded o v) s
     handed_on e g = g ∙ ap (λ (u : Outcome (List MatchState)). handed_out quality u s) (guard_passes v k e h)
 
   -- matches whose players and qualities both have room stand at the front of the sheets

@@ -7,7 +7,6 @@ ghost use Rattle.matchmaker.specs.Quality.{team_of, match_of, seated, quality_of
 ghost use Rattle.seating.specs.Seating.{sizes_over, are_short, lineup, matches_of, seats};
 ghost use Rattle.seating.specs.Steps.{held_sizes, overlaid, joined_to, RatedOut};
 
-use base::Refusal;
 use matchmaker::{ProposedMatch, Team};
 
 // Whose turn it is to take a player.
@@ -31,22 +30,12 @@ pub struct Matches {
     pub len: usize,
 }
 
-// How many matches were handed out, or why none.
-#[derive(Clone, Copy)]
-pub enum Formed {
-    Refused(Refusal),
-    Count(usize),
-}
-
 impl TeamComposition {
     // Is a size over 8?
     pub fn is_over(self) -> bool
         ensures { result ≡ sizes_over self }
     {
-        if 8 < self.a {
-            return true;
-        }
-        8 < self.b
+        8 < self.a || 8 < self.b
     }
 
     // The sizes as far as a team goes: 8 at most, whatever is asked for.
@@ -64,10 +53,7 @@ impl TeamComposition {
 pub fn are_short(players: usize, qualities: usize) -> bool
     ensures { result ≡ are_short players qualities }
 {
-    if players < 64 {
-        return true;
-    }
-    qualities < 64
+    players < 64 || qualities < 64
 }
 
 // ---- teams
@@ -103,24 +89,17 @@ pub fn nobody() -> ProposedMatch
 fn write_team(team: Team, sheet: &mut [u64])
     ensures { sheet.new ≡ overlaid (team_of team).players sheet.old }
 {
-    let players = team.players;
     let n = base::at_most(team.held(), sheet.len());
-    let mut i: usize = 0;
-    while i < n {
-        sheet[i] = players[i];
-        i += 1;
-    }
+    sheet[..n].copy_from_slice(&team.players[..n]);
 }
 
 // One match over the front of the sheet: team A, then B.
 pub fn write_match(proposed: ProposedMatch, sheet: &mut [u64])
     ensures { sheet.new ≡ overlaid (seated (match_of proposed)) sheet.old }
 {
-    let a = proposed.a;
-    let b = proposed.b;
-    let at = base::at_most(a.held(), sheet.len());
-    write_team(a, sheet);
-    write_team(b, &mut sheet[at..]);
+    let at = base::at_most(proposed.a.held(), sheet.len());
+    write_team(proposed.a, sheet);
+    write_team(proposed.b, &mut sheet[at..]);
 }
 
 impl Matches {
@@ -135,14 +114,9 @@ impl Matches {
     fn rated(self, ids: &[u64], ratings: &[f64]) -> [f64; 64]
         ensures { take (length (matches_of self).items) result ≡ map (λ m. quality_of (of_ratings ids.now ratings.now) m.a.players m.b.players) (matches_of self).items }
     {
-        let items = self.items;
-        let n = self.held();
         let mut out = [0.0; 64];
-        let mut i: usize = 0;
-        while i < n {
-            let proposed = items[i];
-            out[i] = proposed.rated_quality(ids, ratings);
-            i += 1;
+        for i in 0..self.held() {
+            out[i] = self.items[i].rated_quality(ids, ratings);
         }
         out
     }
@@ -151,15 +125,10 @@ impl Matches {
     pub fn write_players(self, sheet: &mut [u64])
         ensures { sheet.new ≡ overlaid (seats (matches_of self).items) sheet.old }
     {
-        let items = self.items;
-        let n = self.held();
-        let mut at: usize = 0;
-        let mut i: usize = 0;
-        while i < n {
-            let next = items[i];
+        let mut at = 0;
+        for &next in &self.items[..self.held()] {
             write_match(next, &mut sheet[at..]);
-            at = at + base::at_most(next.seats(), sheet.len() - at);
-            i += 1;
+            at += base::at_most(next.seats(), sheet.len() - at);
         }
     }
 }
@@ -169,11 +138,7 @@ pub fn write_qualities(qualities: [f64; 64], n: usize, sheet: &mut [f64])
     ensures { sheet.new ≡ overlaid (take n qualities) sheet.old }
 {
     let many = base::at_most(base::at_most(n, 64), sheet.len());
-    let mut i: usize = 0;
-    while i < many {
-        sheet[i] = qualities[i];
-        i += 1;
-    }
+    sheet[..many].copy_from_slice(&qualities[..many]);
 }
 
 impl Matches {

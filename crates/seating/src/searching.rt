@@ -1,13 +1,13 @@
 // The check of what a search is given, which the nearest generator shares.
 ghost use Rattle.std.specs.Prelude.{◌≡◌};
-ghost use Rattle.base.specs.Refusals.{checked_of};
+ghost use Rattle.base.specs.Refusals.{outcome_of};
 ghost use Rattle.queue.specs.Queue.{queue_of};
 ghost use Rattle.roster.specs.Roster.{of_ratings};
 ghost use Rattle.seating.specs.Searching.{search_check};
 ghost use Rattle.seating.specs.Steps.{first_check};
 
 use crate::TeamComposition;
-use base::{Checked, Refusal};
+use base::Refusal;
 use queue::Queue;
 
 // Refusals 1, 2 and 3, of all but the entries.
@@ -18,22 +18,20 @@ pub fn check_first(
     ratings: &[f64],
     players: usize,
     qualities: usize,
-) -> Checked
-    ensures { checked_of result ≡ first_check sizes (of_ratings ids.now ratings.now) waiting players qualities }
+) -> Result<(), Refusal>
+    ensures { outcome_of result ≡ first_check sizes (of_ratings ids.now ratings.now) waiting players qualities }
 {
     if 64 < waiting {
-        return Checked::Refused(Refusal::OverLimit);
+        return Err(Refusal::OverLimit);
     }
     if sizes.is_over() {
-        return Checked::Refused(Refusal::OverLimit);
+        return Err(Refusal::OverLimit);
     }
-    if let Checked::Refused(refusal) = roster::check_ratings(ids, ratings) {
-        return Checked::Refused(refusal);
-    }
+    roster::check_ratings(ids, ratings)?;
     if crate::are_short(players, qualities) {
-        return Checked::Refused(Refusal::ShortSheet);
+        return Err(Refusal::ShortSheet);
     }
-    Checked::Passed
+    Ok(())
 }
 
 // Refusals 1, 2, 3 and 4 of what a search is given.
@@ -44,16 +42,12 @@ pub fn check(
     ratings: &[f64],
     players: usize,
     qualities: usize,
-) -> Checked
-    ensures { checked_of result ≡ search_check sizes (of_ratings ids.now ratings.now) (queue_of queue) players qualities }
+) -> Result<(), Refusal>
+    ensures { outcome_of result ≡ search_check sizes (of_ratings ids.now ratings.now) (queue_of queue) players qualities }
 {
-    if let Checked::Refused(refusal) = check_first(
-        queue.len, sizes, ids, ratings, players, qualities,
-    ) {
-        return Checked::Refused(refusal);
-    }
+    check_first(queue.len, sizes, ids, ratings, players, qualities)?;
     if queue.has_joined_over() {
-        return Checked::Refused(Refusal::Clock);
+        return Err(Refusal::Clock);
     }
-    Checked::Passed
+    Ok(())
 }

@@ -29,20 +29,15 @@ pub fn seats_left(sizes: TeamComposition) -> usize
 {
     let a = base::at_most(sizes.a, 8);
     let b = base::at_most(sizes.b, 8);
-    if 0 < a {
-        return a - 1 + b;
-    }
-    b
+    a.saturating_sub(1) + b
 }
 
 // Is it team A's turn?
 pub fn takes_a(sizes: TeamComposition, proposed: ProposedMatch) -> bool
     ensures { result ≡ takes_a sizes (match_of proposed) }
 {
-    let a = proposed.a;
-    let b = proposed.b;
-    let m = a.held();
-    let n = b.held();
+    let m = proposed.a.held();
+    let n = proposed.b.held();
     if sizes.a <= m {
         return false;
     }
@@ -56,19 +51,17 @@ pub fn takes_a(sizes: TeamComposition, proposed: ProposedMatch) -> bool
 pub fn seat_next(sizes: TeamComposition, proposed: ProposedMatch, player: u64) -> ProposedMatch
     ensures { match_of result ≡ grown (held_sizes sizes) (match_of proposed) player }
 {
-    let a = proposed.a;
-    let b = proposed.b;
     let held = sizes.held();
     if takes_a(held, proposed) {
         return ProposedMatch {
-            a: crate::joined(a, player),
-            b: b,
+            a: crate::joined(proposed.a, player),
+            ..proposed
         };
     }
-    if b.held() < held.b {
+    if proposed.b.held() < held.b {
         return ProposedMatch {
-            a: a,
-            b: crate::joined(b, player),
+            b: crate::joined(proposed.b, player),
+            ..proposed
         };
     }
     proposed
@@ -78,10 +71,5 @@ pub fn seat_next(sizes: TeamComposition, proposed: ProposedMatch, player: u64) -
 pub fn is_complete(sizes: TeamComposition, proposed: ProposedMatch) -> bool
     ensures { result ≡ complete sizes (match_of proposed) }
 {
-    let a = proposed.a;
-    let b = proposed.b;
-    if a.held() == sizes.a {
-        return b.held() == sizes.b;
-    }
-    false
+    proposed.a.held() == sizes.a && proposed.b.held() == sizes.b
 }

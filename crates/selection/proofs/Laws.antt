@@ -7,12 +7,12 @@ use native.Mathlib.Numerals.{add-one}
 use borrow.Author.Tests.{ltb-false}
 use lib.Dec.{ltb, eqb}
 use lib.Ieee.{Float, nan, inf, binary64, lt, le, neg, div, of_bits}
-use lib.ListN.{length, take, drop, get_or, set, length-map}
+use lib.ListN.{length, take, drop, get_or, set, length-map, drop_of_length-le}
 use lib.Seq.{append_snoc, length-take-le}
 use Rattle.base.specs.Floats as F
-use Rattle.base.specs.Refusals.{Outcome, refused, gives, guarded, refusal_number, checked_of}
-use Rattle.base.specs.declared.Checked.{Checked}
-use Rattle.base.specs.declared.Checked.TheVariants.{Passed, Refused}
+use Rattle.base.specs.Refusals.{Outcome, refused, gives, guarded, refusal_number, outcome_of}
+use Rattle.std.specs.Prelude.{Result}
+use Rattle.std.specs.Prelude.{Ok, Err}
 use Rattle.base.specs.declared.Refusal.{Refusal}
 use Rattle.base.specs.Lists.{seek, any, keep}
 use Rattle.base.specs.Ranking.{unrankable, better, last_best}
@@ -50,9 +50,9 @@ module _ {A B : Type 0} (f : A → B) where
   fold_map g c [] = refl
   fold_map g c (x ∷ xs) = fold_map g (g c (f x)) xs
 
--- nothing is left to fold at n: `fold_end_of`, without a default element to name
-pub fold_over : {A B : Type 0} (f : B → A → B) (es : List A) (n i : ℕ) → n ≤ length es → (b : B) → n ≤ i → i ≤ n → foldl f b (drop i (take n es)) ≡ b
-fold_over f es n i fits b h k = rw (peeled es n i fits h k)
+-- nothing is left to fold at the end: `fold_end`, without a default element to name
+pub fold_over : {A B : Type 0} (f : B → A → B) (xs : List A) (i : ℕ) (b : B) → length xs ≤ i → foldl f b (drop i xs) ≡ b
+fold_over f xs i b h = rw (drop_of_length-le xs h)
 
 -- a check's first refusal stands before the others
 module _ (t : Bool) (o : Outcome Unit) (v : Outcome (List ℕ)) where
@@ -60,11 +60,11 @@ module _ (t : Bool) (o : Outcome Unit) (v : Outcome (List ℕ)) where
   first_refused = cases t (λ y. rw y) (λ n. rw n)
 
   -- where the check refuses, so does the answer
-  pub answer_refused : (k : Checked) {s : SelectedState} {x : Refusal} → k ≡ Refused x → checked_of k ≡ cond t (refused 1) o → s ≡ stated (refused (refusal_number x)) → s ≡ stated (cond t (refused 1) (guarded o v))
+  pub answer_refused : (k : Result Unit Refusal) {s : SelectedState} {x : Refusal} → k ≡ Err x → outcome_of k ≡ cond t (refused 1) o → s ≡ stated (refused (refusal_number x)) → s ≡ stated (cond t (refused 1) (guarded o v))
   answer_refused k e h a = a ∙ ap stated (guard_refuses v k e h ∙ first_refused)
 
   -- where it passes, the answer is what comes behind it
-  pub answer_given : (k : Checked) {s : SelectedState} → k ≡ Passed → checked_of k ≡ cond t (refused 1) o → s ≡ stated v → s ≡ stated (cond t (refused 1) (guarded o v))
+  pub answer_given : (k : Result Unit Refusal) {s : SelectedState} → k ≡ Ok tt → outcome_of k ≡ cond t (refused 1) o → s ≡ stated v → s ≡ stated (cond t (refused 1) (guarded o v))
   answer_given k e h a = a ∙ ap stated (guard_passes v k e h ∙ first_refused)
 
 -- an answer that states as many places as the list has
@@ -74,7 +74,7 @@ counted e h = rw (e, h)
 -- ---- the check, and refusal 5
 
 -- a check that passes tells that there are no more than 64 candidates and 8 objectives
-pub passed_fits : (c : Candidates) (m : ℕ) (o : Outcome Unit) (k : Checked) → k ≡ Passed → checked_of k ≡ cond (too_much c m) (refused 1) o → (c.size ≤ 64) × (m ≤ 8)
+pub passed_fits : (c : Candidates) (m : ℕ) (o : Outcome Unit) (k : Result Unit Refusal) → k ≡ Ok tt → outcome_of k ≡ cond (too_much c m) (refused 1) o → (c.size ≤ 64) × (m ≤ 8)
 passed_fits c m o k e h =
     cases (ltb 64 c.size) (λ y. never (no (rw (e, y) at h)))
     (λ f. cases (any overfull c.matches) (λ y. never (no (rw (e, f, y) at h)))
@@ -88,7 +88,7 @@ abbrev pub ranked_rule : (List Float → List ℕ) → List Float → Outcome (L
 ranked_rule f scores = cond (unrankable scores) (refused 5) (gives (f scores))
 
 -- behind a check that passes, `scores` being the first of an array that hold them
-module _ (t : Bool) (o : Outcome Unit) (f : List Float → List ℕ) {held scores : List Float} (same : held ≡ scores) (k : Checked) (e : k ≡ Passed) (h : checked_of k ≡ cond t (refused 1) o) where
+module _ (t : Bool) (o : Outcome Unit) (f : List Float → List ℕ) {held scores : List Float} (same : held ≡ scores) (k : Result Unit Refusal) (e : k ≡ Ok tt) (h : outcome_of k ≡ cond t (refused 1) o) where
   -- scores that cannot be ranked: 5
   pub ranked_refused : {s : SelectedState} → unrankable held ≡ true → s ≡ stated (refused 5) → s ≡ stated (cond t (refused 1) (guarded o (ranked_rule f scores)))
   ranked_refused u a =

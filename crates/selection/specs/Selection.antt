@@ -3,7 +3,7 @@ use Rattle.std.specs.Prelude.{ℕ, suc, Bool, true, cond, ◌||◌, ltb, eqb, Fl
 use mathlib.Core.List.{List, [], ◌∷◌, map, foldl}
 use Rattle.std.specs.Float.{inf, binary64}
 use Rattle.std.specs.Float.Ieee.{sub, mul, lt, le, ne, of_bits}
-use Rattle.base.specs.Refusals.{Outcome, refused, gives, guarded, checked_of}
+use Rattle.base.specs.Refusals.{Outcome, refused, gives, guarded, outcome_of}
 use Rattle.base.specs.Lists.{seek, any, keep}
 use Rattle.base.specs.Ranking.{unrankable, last_best, higher, sort_by}
 use Rattle.ranking.specs.declared.Ranked.{Ranked}
@@ -30,7 +30,7 @@ pub record SelectedState : Type 0 where
   pub places : Outcome (List ℕ)
 
 abbrev pub selected_of : Selected → SelectedState
-selected_of s = record { size = s.count; places = guarded (checked_of s.answer) (gives (take s.count s.places)) }
+selected_of s = record { size = s.count; places = guarded (outcome_of s.answer) (gives (take s.count s.places)) }
 
 -- the answer that states as many places as it gives
 abbrev pub stated : Outcome (List ℕ) → SelectedState

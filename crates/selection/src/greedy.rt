@@ -5,7 +5,7 @@ ghost use Rattle.roster.specs.Roster.{of_ratings};
 ghost use Rattle.selection.specs.Selection.{candidates_of, selected_of, stated, best_of, greedy_selection_rule};
 
 use crate::Selected;
-use base::{Checked, Refusal};
+use base::Refusal;
 use matchmaker::ProposedMatch;
 use objective::soft::SoftObjective;
 
@@ -14,14 +14,11 @@ fn last_best(scores: [f64; 64], n: usize) -> usize
     requires { (0 < n) × (n ≤ 64) }
     ensures { result ∷ [] ≡ best_of (numbered 0 (take n scores)) }
 {
-    let mut best: usize = 0;
-    let mut i: usize = 1;
-    while i < n {
-        if scores[i] < scores[best] {
-            i += 1;
-        } else {
+    let mut best = 0;
+    for i in 1..n {
+        let lower = scores[i] < scores[best];
+        if !lower {
             best = i;
-            i += 1;
         }
     }
     best
@@ -37,7 +34,7 @@ pub fn select(
 ) -> Selected
     ensures { selected_of result ≡ stated (greedy_selection_rule (of_ratings ids.now ratings.now) objectives count (candidates_of candidates n)) }
 {
-    if let Checked::Refused(refusal) = crate::check(candidates, n, count, ids, ratings) {
+    if let Err(refusal) = crate::check(candidates, n, count, ids, ratings) {
         return crate::refuse(refusal);
     }
     let scores = crate::scores(objectives, count, candidates, n, ids, ratings);

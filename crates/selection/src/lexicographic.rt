@@ -7,10 +7,10 @@ ghost use Rattle.roster.specs.Roster.{of_ratings};
 ghost use Rattle.matchmaker.specs.Quality.{match_of};
 ghost use Rattle.objective.specs.Soft.{soft_value_of};
 ghost use Rattle.selection.specs.Selection.{candidates_of, selected_of, stated, max_of, highest_of, placed, value_of, near_best, narrowed, lexicographic_rule};
-ghost use Rattle.selection.specs.Steps.{shortlist_of};
+ghost use Rattle.selection.specs.Steps.{shortlist_of, still_in_of};
 
 use crate::Selected;
-use base::Checked;
+use base::Refusal;
 use matchmaker::ProposedMatch;
 use objective::soft::SoftObjective;
 
@@ -60,14 +60,11 @@ fn listed(candidates: [ProposedMatch; 64], n: usize) -> Shortlist
         proposed: candidates[0],
     };
     let mut kept = [first; 64];
-    let mut i: usize = 0;
-    while i < n {
-        let proposed = candidates[i];
+    for i in 0..n {
         kept[i] = Candidate {
             place: i,
-            proposed: proposed,
+            proposed: candidates[i],
         };
-        i += 1;
     }
     Shortlist {
         candidates: kept,
@@ -76,51 +73,34 @@ fn listed(candidates: [ProposedMatch; 64], n: usize) -> Shortlist
 }
 
 // The highest value of those still kept, and minus infinity where there is none.
-fn highest(
-    objective: SoftObjective,
-    kept: [Candidate; 64],
-    n: usize,
-    ids: &[u64],
-    ratings: &[f64],
-) -> f64
-    requires { n ≤ 64 }
-    ensures { result ≡ highest_of (map (value_of (of_ratings ids.now ratings.now) objective) (shortlist_of (record { candidates = kept; len = n }))) }
+fn highest(objective: SoftObjective, kept: &[Candidate], ids: &[u64], ratings: &[f64]) -> f64
+    ensures { result ≡ highest_of (map (value_of (of_ratings ids.now ratings.now) objective) (map still_in_of kept.now)) }
 {
     let mut best = -1.0 / 0.0;
-    let mut i: usize = 0;
-    while i < n {
-        let candidate = kept[i];
-        let proposed = candidate.proposed;
-        best = max(best, value(objective, proposed, ids, ratings));
-        i += 1;
+    for candidate in kept {
+        best = max(best, value(objective, candidate.proposed, ids, ratings));
     }
     best
 }
 
-// Those of the first n whose value is at least the bound.
+// Those still kept whose value is at least the bound.
 fn at_least(
     bound: f64,
     objective: SoftObjective,
-    kept: [Candidate; 64],
-    n: usize,
+    shortlist: Shortlist,
     ids: &[u64],
     ratings: &[f64],
 ) -> Shortlist
-    requires { n ≤ 64 }
-    ensures { (shortlist_of result ≡ keep (λ k. le bound (value_of (of_ratings ids.now ratings.now) objective k)) (shortlist_of (record { candidates = kept; len = n }))) × (result.len ≤ 64) }
+    requires { shortlist.len ≤ 64 }
+    ensures { (shortlist_of result ≡ keep (λ k. le bound (value_of (of_ratings ids.now ratings.now) objective k)) (shortlist_of shortlist)) × (result.len ≤ 64) }
 {
+    let kept = shortlist.candidates;
     let mut out = kept;
-    let mut k: usize = 0;
-    let mut i: usize = 0;
-    while i < n {
-        let candidate = kept[i];
-        let proposed = candidate.proposed;
-        if bound <= value(objective, proposed, ids, ratings) {
-            out[k] = candidate;
+    let mut k = 0;
+    for i in 0..shortlist.len {
+        if bound <= value(objective, kept[i].proposed, ids, ratings) {
+            out[k] = kept[i];
             k += 1;
-            i += 1;
-        } else {
-            i += 1;
         }
     }
     Shortlist {
@@ -139,10 +119,9 @@ fn near_best(
     requires { shortlist.len ≤ 64 }
     ensures { (shortlist_of result ≡ near_best (of_ratings ids.now ratings.now) objective (shortlist_of shortlist)) × (result.len ≤ 64) }
 {
-    let kept = shortlist.candidates;
-    let n = shortlist.len;
-    let bound = highest(objective, kept, n, ids, ratings) - 0.001;
-    at_least(bound, objective, kept, n, ids, ratings)
+    let kept = &shortlist.candidates[..shortlist.len];
+    let bound = highest(objective, kept, ids, ratings) - 0.001;
+    at_least(bound, objective, shortlist, ids, ratings)
 }
 
 // Those left by all objectives, one after another.
@@ -157,14 +136,11 @@ fn narrow(
     ensures { (shortlist_of result ≡ narrowed (of_ratings ids.now ratings.now) (take count objectives) (shortlist_of shortlist)) × (result.len ≤ 64) }
 {
     let mut kept = shortlist;
-    let mut i: usize = 0;
-    while i < count {
-        let objective = objectives[i];
-        kept = near_best(objective, kept, ids, ratings);
+    for i in 0..count {
+        kept = near_best(objectives[i], kept, ids, ratings);
         if kept.len == 1 {
             return kept;
         }
-        i += 1;
     }
     kept
 }
@@ -174,19 +150,14 @@ fn places_of(shortlist: Shortlist) -> Selected
     requires { shortlist.len ≤ 64 }
     ensures { selected_of result ≡ stated (gives (map (λ k. k.place) (shortlist_of shortlist))) }
 {
-    let kept = shortlist.candidates;
-    let n = shortlist.len;
     let mut places = [0; 64];
-    let mut i: usize = 0;
-    while i < n {
-        let candidate = kept[i];
-        places[i] = candidate.place;
-        i += 1;
+    for i in 0..shortlist.len {
+        places[i] = shortlist.candidates[i].place;
     }
     Selected {
-        places: places,
-        count: n,
-        answer: Checked::Passed,
+        places,
+        count: shortlist.len,
+        answer: Ok(()),
     }
 }
 
@@ -200,7 +171,7 @@ pub fn select(
 ) -> Selected
     ensures { selected_of result ≡ stated (lexicographic_rule (of_ratings ids.now ratings.now) objectives count (candidates_of candidates n)) }
 {
-    if let Checked::Refused(refusal) = crate::check(candidates, n, count, ids, ratings) {
+    if let Err(refusal) = crate::check(candidates, n, count, ids, ratings) {
         return crate::refuse(refusal);
     }
     places_of(narrow(objectives, count, listed(candidates, n), ids, ratings))

@@ -2,14 +2,14 @@
 #![tactic(auto)]
 
 ghost use Rattle.std.specs.Prelude.{◌≡◌, cond, [], ◌∷◌, map, ◌≤◌, take};
-ghost use Rattle.base.specs.Refusals.{refused, gives, refusal_number, checked_of};
+ghost use Rattle.base.specs.Refusals.{refused, gives, refusal_number, outcome_of};
 ghost use Rattle.base.specs.Lists.{any};
 ghost use Rattle.roster.specs.Roster.{of_ratings, ratings_check};
 ghost use Rattle.matchmaker.specs.Quality.{match_of, overfull};
 ghost use Rattle.objective.specs.Soft.{soft_score_of};
 ghost use Rattle.selection.specs.Selection.{candidates_of, too_much, selected_of, stated};
 
-use base::{Checked, Refusal};
+use base::Refusal;
 use matchmaker::ProposedMatch;
 use objective::soft::SoftObjective;
 
@@ -30,18 +30,16 @@ pub mod weighted;
 pub struct Selected {
     pub places: [usize; 64],
     pub count: usize,
-    pub answer: Checked,
+    pub answer: Result<(), Refusal>,
 }
 
 // Nobody chosen, for this refusal.
 pub(crate) fn refuse(refusal: Refusal) -> Selected
     ensures { selected_of result ≡ stated (refused (refusal_number refusal)) }
 {
-    let none: usize = 0;
     Selected {
-        places: [0; 64],
-        count: none,
-        answer: Checked::Refused(refusal),
+        answer: Err(refusal),
+        ..nobody()
     }
 }
 
@@ -52,7 +50,7 @@ pub(crate) fn nobody() -> Selected
     Selected {
         places: [0; 64],
         count: 0,
-        answer: Checked::Passed,
+        answer: Ok(()),
     }
 }
 
@@ -63,24 +61,15 @@ pub(crate) fn just(place: usize) -> Selected
     Selected {
         places: [place; 64],
         count: 1,
-        answer: Checked::Passed,
+        answer: Ok(()),
     }
 }
 
-// Is a team over 8 among the first n candidates?
-fn any_overfull(candidates: [ProposedMatch; 64], n: usize) -> bool
-    requires { n ≤ 64 }
-    ensures { result ≡ any overfull (map match_of (take n candidates)) }
+// Is a team over 8 among the candidates?
+fn any_overfull(candidates: &[ProposedMatch]) -> bool
+    ensures { result ≡ any overfull (map match_of candidates.now) }
 {
-    let mut i: usize = 0;
-    while i < n {
-        let candidate = candidates[i];
-        if candidate.is_overfull() {
-            return true;
-        }
-        i += 1;
-    }
-    false
+    candidates.iter().any(|candidate| candidate.is_overfull())
 }
 
 // Refusals 1 and 2 of candidates, objectives and columns.
@@ -90,17 +79,11 @@ pub(crate) fn check(
     objectives: usize,
     ids: &[u64],
     ratings: &[f64],
-) -> Checked
-    ensures { checked_of result ≡ cond (too_much (candidates_of candidates n) objectives) (refused 1) (ratings_check (of_ratings ids.now ratings.now)) }
+) -> Result<(), Refusal>
+    ensures { outcome_of result ≡ cond (too_much (candidates_of candidates n) objectives) (refused 1) (ratings_check (of_ratings ids.now ratings.now)) }
 {
-    if 64 < n {
-        return Checked::Refused(Refusal::OverLimit);
-    }
-    if any_overfull(candidates, n) {
-        return Checked::Refused(Refusal::OverLimit);
-    }
-    if 8 < objectives {
-        return Checked::Refused(Refusal::OverLimit);
+    if 64 < n || any_overfull(&candidates[..n]) || 8 < objectives {
+        return Err(Refusal::OverLimit);
     }
     roster::check_ratings(ids, ratings)
 }
@@ -118,11 +101,8 @@ pub(crate) fn scores(
     ensures { take n result ≡ map (λ m. soft_score_of (of_ratings ids.now ratings.now) m (take count objectives)) (map match_of (take n candidates)) }
 {
     let mut out = [0.0; 64];
-    let mut i: usize = 0;
-    while i < n {
-        let candidate = candidates[i];
-        out[i] = objective::soft::rated_soft_score(objectives, count, candidate, ids, ratings);
-        i += 1;
+    for i in 0..n {
+        out[i] = objective::soft::rated_soft_score(objectives, count, candidates[i], ids, ratings);
     }
     out
 }

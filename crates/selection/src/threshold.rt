@@ -6,7 +6,7 @@ ghost use Rattle.roster.specs.Roster.{of_ratings};
 ghost use Rattle.selection.specs.Selection.{candidates_of, selected_of, stated, first_at_least, threshold_rule};
 
 use crate::Selected;
-use base::Checked;
+use base::Refusal;
 use matchmaker::ProposedMatch;
 use objective::soft::SoftObjective;
 
@@ -15,12 +15,10 @@ fn first_at_least(minimum: f64, scores: [f64; 64], n: usize) -> Selected
     requires { n ≤ 64 }
     ensures { selected_of result ≡ stated (gives (first_at_least minimum (numbered 0 (take n scores)))) }
 {
-    let mut i: usize = 0;
-    while i < n {
+    for i in 0..n {
         if minimum <= scores[i] {
             return crate::just(i);
         }
-        i += 1;
     }
     crate::nobody()
 }
@@ -36,7 +34,7 @@ pub fn select(
 ) -> Selected
     ensures { selected_of result ≡ stated (threshold_rule (of_ratings ids.now ratings.now) minimum objectives count (candidates_of candidates n)) }
 {
-    if let Checked::Refused(refusal) = crate::check(candidates, n, count, ids, ratings) {
+    if let Err(refusal) = crate::check(candidates, n, count, ids, ratings) {
         return crate::refuse(refusal);
     }
     let scores = crate::scores(objectives, count, candidates, n, ids, ratings);

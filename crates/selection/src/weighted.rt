@@ -6,7 +6,7 @@ ghost use Rattle.base.specs.Refusals.{gives};
 ghost use Rattle.ranking.specs.Order.{order_of, ordered};
 
 use crate::Selected;
-use base::{Checked, Refusal};
+use base::Refusal;
 use matchmaker::ProposedMatch;
 use objective::pareto::ObjectiveWeights;
 use ranking::Order;
@@ -23,11 +23,8 @@ fn skill_scores(
     ensures { take n result ≡ skill_scores (of_ratings ids.now ratings.now) weights (candidates_of candidates n) }
 {
     let mut out = [0.0; 64];
-    let mut i: usize = 0;
-    while i < n {
-        let candidate = candidates[i];
-        out[i] = weights.skill * candidate.rated_quality(ids, ratings);
-        i += 1;
+    for i in 0..n {
+        out[i] = weights.skill * candidates[i].rated_quality(ids, ratings);
     }
     out
 }
@@ -37,18 +34,14 @@ fn places_of(order: Order) -> Selected
     requires { order_of order ≡ ordered (order_of order).ranked }
     ensures { selected_of result ≡ stated (gives (map (λ c. c.place) (order_of order).ranked)) }
 {
-    let items = order.ranked;
     let mut places = [0; 64];
-    let mut i: usize = 0;
-    while i < 64 {
-        let item = items[i];
-        places[i] = item.place;
-        i += 1;
+    for i in 0..64 {
+        places[i] = order.ranked[i].place;
     }
     Selected {
-        places: places,
+        places,
         count: order.len,
-        answer: Checked::Passed,
+        answer: Ok(()),
     }
 }
 
@@ -61,7 +54,7 @@ pub fn select(
 ) -> Selected
     ensures { selected_of result ≡ stated (weighted_rule (of_ratings ids.now ratings.now) weights (candidates_of candidates n)) }
 {
-    if let Checked::Refused(refusal) = crate::check(candidates, n, 0, ids, ratings) {
+    if let Err(refusal) = crate::check(candidates, n, 0, ids, ratings) {
         return crate::refuse(refusal);
     }
     let scores = skill_scores(weights, candidates, n, ids, ratings);

@@ -1,5 +1,6 @@
 // The six calls of a hall, what each brings, and how it is made.
 use crate::rosters;
+use base::Refusal;
 use beam::BeamSearch;
 use capi::halls;
 use capi::halls::{Keyed, Rounded};
@@ -7,7 +8,6 @@ use capi::scores::SoftObjectives;
 use hall::{Booking, Hall};
 use objective::score::MatchObjective;
 use rosters::Roster;
-use seating::Formed;
 
 pub const BOOKING: u8 = 0;
 
@@ -66,8 +66,8 @@ pub struct Made {
 pub fn booking(key: u64, player: u64, rating: f64, joined: u64) -> Call {
     Call {
         kind: BOOKING,
-        key: key,
-        player: player,
+        key,
+        player,
         rating_bits: base::to_bits(rating),
         party: 0,
         role: 0,
@@ -81,8 +81,8 @@ pub fn booking(key: u64, player: u64, rating: f64, joined: u64) -> Call {
 pub fn withdrawal(key: u64, player: u64) -> Call {
     Call {
         kind: WITHDRAWAL,
-        key: key,
-        player: player,
+        key,
+        player,
         rating_bits: 0,
         party: 0,
         role: 0,
@@ -95,16 +95,16 @@ pub fn withdrawal(key: u64, player: u64) -> Call {
 
 pub fn round(kind: u8, game: u8, width: usize, clock: u64, fault: u8) -> Call {
     Call {
-        kind: kind,
+        kind,
         key: 0,
         player: 0,
         rating_bits: 0,
         party: 0,
         role: 0,
         time: clock,
-        game: game,
-        width: width,
-        fault: fault,
+        game,
+        width,
+        fault,
     }
 }
 
@@ -141,7 +141,7 @@ pub fn game_of(call: Call, answer: Answer) -> u8 {
 fn keyed(made: Keyed) -> Made {
     let hall = made.hall;
     Made {
-        hall: hall,
+        hall,
         answer: Answer {
             refusal: made.refusal,
             matches: 0,
@@ -152,15 +152,15 @@ fn keyed(made: Keyed) -> Made {
 }
 
 // What a search or a generator gives, which tries nothing.
-pub fn formed(given: Formed) -> Answer {
+pub fn formed(given: Result<usize, Refusal>) -> Answer {
     match given {
-        Formed::Count(matches) => Answer {
+        Ok(matches) => Answer {
             refusal: 0,
-            matches: matches,
+            matches,
             tried: 0,
             served: 255,
         },
-        Formed::Refused(refusal) => Answer {
+        Err(refusal) => Answer {
             refusal: refusal.number(),
             matches: 0,
             tried: 0,
@@ -172,7 +172,7 @@ pub fn formed(given: Formed) -> Answer {
 fn rounded(made: Rounded) -> Made {
     let hall = made.hall;
     Made {
-        hall: hall,
+        hall,
         answer: handed(made),
     }
 }

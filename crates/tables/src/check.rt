@@ -25,23 +25,19 @@ pub fn is_same_float(x: f64, y: f64) -> bool {
 }
 
 pub fn are_same_players(x: &[u64; 64], y: &[u64; 64]) -> bool {
-    let mut i: usize = 0;
-    while i < 64 {
+    for i in 0..64 {
         if x[i] != y[i] {
             return false;
         }
-        i += 1;
     }
     true
 }
 
 pub fn are_same_qualities(x: &[f64; 64], y: &[f64; 64]) -> bool {
-    let mut i: usize = 0;
-    while i < 64 {
+    for i in 0..64 {
         if !is_same_float(x[i], y[i]) {
             return false;
         }
-        i += 1;
     }
     true
 }
@@ -58,24 +54,20 @@ pub fn is_same_booking(x: Booking, y: Booking) -> bool {
 
 // The first n bookings.
 fn are_same_bookings(x: [Booking; 64], y: [Booking; 64], n: usize) -> bool {
-    let mut i: usize = 0;
-    while i < 64 {
+    for i in 0..64 {
         if i < n && !is_same_booking(x[i], y[i]) {
             return false;
         }
-        i += 1;
     }
     true
 }
 
 // The first n keys.
 fn are_same_keys(x: &[u64; 1024], y: &[u64; 1024], n: usize) -> bool {
-    let mut i: usize = 0;
-    while i < 1024 {
+    for i in 0..1024 {
         if i < n && x[i] != y[i] {
             return false;
         }
-        i += 1;
     }
     true
 }
@@ -100,12 +92,10 @@ fn is_same_note(x: Note, y: Note) -> bool {
 
 // The first n notes.
 fn are_same_notes(x: [Note; 1024], y: [Note; 1024], n: usize) -> bool {
-    let mut i: usize = 0;
-    while i < 1024 {
+    for i in 0..1024 {
         if i < n && !is_same_note(x[i], y[i]) {
             return false;
         }
-        i += 1;
     }
     true
 }
@@ -122,14 +112,12 @@ fn is_same_log(x: Hall, y: Hall) -> bool {
 }
 
 fn are_same_sizes(x: [TeamComposition; 8], y: [TeamComposition; 8]) -> bool {
-    let mut i: usize = 0;
-    while i < 8 {
+    for i in 0..8 {
         let own = x[i];
         let other = y[i];
         if own.a != other.a || own.b != other.b {
             return false;
         }
-        i += 1;
     }
     true
 }
@@ -157,10 +145,8 @@ pub fn is_same_hall(x: Hall, y: Hall) -> bool {
 // The seats of so many matches.
 pub fn seats(matches: usize, each: usize) -> usize {
     let mut seats: usize = 0;
-    let mut i: usize = 0;
-    while i < matches {
+    for i in 0..matches {
         seats = std::num::wrapping_add_usize(seats, each);
-        i += 1;
     }
     seats
 }
@@ -168,24 +154,20 @@ pub fn seats(matches: usize, each: usize) -> usize {
 // How many places of the sheet are written.
 pub fn written(players: &[u64; 64]) -> u64 {
     let mut n: u64 = 0;
-    let mut i: usize = 0;
-    while i < 64 {
+    for i in 0..64 {
         if players[i] != BLANK {
             n = std::num::wrapping_add_u64(n, 1);
         }
-        i += 1;
     }
     n
 }
 
 // Does the player sit at one of the first n places?
 fn sits(players: &[u64; 64], n: usize, player: u64) -> bool {
-    let mut i: usize = 0;
-    while i < 64 {
+    for i in 0..64 {
         if i < n && players[i] == player {
             return true;
         }
-        i += 1;
     }
     false
 }
@@ -194,13 +176,11 @@ fn sits(players: &[u64; 64], n: usize, player: u64) -> bool {
 fn waits_for(before: Hall, player: u64, game: u8) -> bool {
     let bookings = before.bookings;
     let n = before.waiting;
-    let mut i: usize = 0;
-    while i < 64 {
+    for i in 0..64 {
         let booking = bookings[i];
         if i < n && booking.player == player {
             return booking.game == game;
         }
-        i += 1;
     }
     false
 }
@@ -225,12 +205,10 @@ fn is_fair(
 
 // Every place of the sheet.
 pub fn are_fair(before: Hall, game: u8, players: &[u64; 64], seats: usize) -> bool {
-    let mut i: usize = 0;
-    while i < 64 {
+    for i in 0..64 {
         if !is_fair(before, game, players, seats, i, players[i]) {
             return false;
         }
-        i += 1;
     }
     seats <= 64
 }

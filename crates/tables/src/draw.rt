@@ -33,7 +33,7 @@ pub fn plan_of(list: u64) -> Plan {
             guests: 30,
             keys: 100000,
             rare: 12,
-            games: games,
+            games,
         };
     }
     if list % 5 == 0 {
@@ -50,7 +50,7 @@ pub fn plan_of(list: u64) -> Plan {
         guests: 6 + 3 * games,
         keys: 60,
         rare: 4,
-        games: games,
+        games,
     }
 }
 
@@ -108,12 +108,10 @@ fn sizes(list: u64, game: usize) -> TeamComposition {
 pub fn games_of(list: u64) -> Games {
     let plan = plan_of(list);
     let mut drawn = [TeamComposition { a: 0, b: 0 }; 8];
-    let mut i: usize = 0;
-    while i < 8 {
+    for i in 0..8 {
         if (i as u64) < plan.games {
             drawn[i] = sizes(list, i);
         }
-        i += 1;
     }
     if list % 40 == 7 {
         drawn[3] = TeamComposition { a: 1, b: 9 };

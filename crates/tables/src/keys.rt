@@ -170,7 +170,7 @@ fn noted(answer: u8) -> Hall {
         role: 0,
         game: 0,
         kind: 2,
-        answer: answer,
+        answer,
     };
     hall.noted = 1;
     hall

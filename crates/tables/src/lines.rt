@@ -8,7 +8,7 @@ use capi::halls::RoundRules;
 use capi::scores::SoftObjectives;
 use greedy::GreedySearch;
 use hall::{Booking, Hall};
-use matchmaker::{ProposedMatch, Quality, Team};
+use matchmaker::{ProposedMatch, Team};
 use objective::pareto::MatchObjectiveVector;
 use objective::score::MatchObjective;
 use queue::{Queue, QueueEntry};
@@ -38,9 +38,9 @@ pub fn all() {
 
 fn entry(player: u64, rating: f64) -> QueueEntry {
     QueueEntry {
-        player: player,
+        player,
         joined: 0,
-        rating: rating,
+        rating,
         party: 0,
         role: 0,
     }
@@ -52,10 +52,7 @@ fn guests(n: usize) -> Queue {
     entries[1] = entry(2, 1280.0);
     entries[2] = entry(3, 1010.0);
     entries[3] = entry(4, 1090.0);
-    Queue {
-        entries: entries,
-        len: n,
-    }
+    Queue { entries, len: n }
 }
 
 // ---- searches and listings
@@ -171,10 +168,7 @@ fn reference(words: &[u8], joined: u64) {
 fn team(player: u64) -> Team {
     let mut players = [0u64; 8];
     players[0] = player;
-    Team {
-        players: players,
-        len: 1,
-    }
+    Team { players, len: 1 }
 }
 
 // The quality of 1000 against another rating.
@@ -188,8 +182,8 @@ fn difference(words: &[u8], rating: f64) {
     text::say(words);
     let quality = proposed.match_quality(&ids, &ratings);
     match quality {
-        Quality::Of(x) => text::quality(x),
-        Quality::Refused(refusal) => text::refusal(refusal.number()),
+        Ok(x) => text::quality(x),
+        Err(refusal) => text::refusal(refusal.number()),
     }
 }
 
@@ -244,10 +238,10 @@ fn bookings() {
 
 fn booked(player: u64, rating: f64, party: u64) -> Booking {
     Booking {
-        player: player,
+        player,
         joined: 0,
         rating_bits: base::to_bits(rating),
-        party: party,
+        party,
         role: 0,
         game: 0,
     }
@@ -337,15 +331,10 @@ fn guest(place: usize) -> QueueEntry {
 // The first `len` guests.
 fn waiting(len: usize) -> Queue {
     let mut entries = [guest(0); 64];
-    let mut i: usize = 0;
-    while i < 64 {
+    for i in 0..64 {
         entries[i] = guest(i);
-        i += 1;
     }
-    Queue {
-        entries: entries,
-        len: len,
-    }
+    Queue { entries, len }
 }
 
 // The exhaustive listing 1+1 of so many guests.

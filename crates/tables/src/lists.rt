@@ -32,8 +32,8 @@ fn start(told: bool, games: Games, tally: Tally) -> Run {
         withdrawn: 0,
         seated: 0,
         turns: turns::none(),
-        told: told,
-        tally: tally,
+        told,
+        tally,
     }
 }
 
@@ -160,7 +160,7 @@ impl Run {
         let seated = counted.checked(check::are_fair(before, game, players, places));
         Stepped {
             run: seated.dispatched(call, answer, before),
-            answer: answer,
+            answer,
         }
     }
 
@@ -195,10 +195,7 @@ impl Run {
         let after = made.hall;
         let mut run = self;
         run.thinned = after;
-        Stepped {
-            run: run,
-            answer: answer,
-        }
+        Stepped { run, answer }
     }
 
     // A call that is no resend is made in both lists, each time with sheets of its own, and gives the same.
@@ -218,7 +215,7 @@ impl Run {
         let same_qualities = check::are_same_qualities(&qualities, &other_qualities);
         Stepped {
             run: same_players.checked(same_qualities),
-            answer: answer,
+            answer,
         }
     }
 
@@ -277,10 +274,8 @@ pub fn make(list: u64, before: Tally) -> Tally {
     let roster = rosters::guests();
     let mut run = start(list == 0, games(list), before.listed());
     let n = len(list);
-    let mut i: usize = 0;
-    while i < n {
+    for i in 0..n {
         run = run.step(call(list, i), roster);
-        i += 1;
     }
     let finished = run.finished();
     finished.tally
@@ -289,9 +284,7 @@ pub fn make(list: u64, before: Tally) -> Tally {
 // The lists from 1 to n.
 pub fn make_all(n: u64) -> Tally {
     let mut tally = tally::empty();
-    let mut list: u64 = 0;
-    while list < n {
-        list += 1;
+    for list in 1..=n {
         tally = make(list, tally);
     }
     tally

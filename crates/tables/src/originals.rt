@@ -43,15 +43,12 @@ pub fn none() -> Originals {
 
 // The place of a key among the first n, or 1024.
 fn place(calls: [Original; 1024], n: usize, key: u64) -> usize {
-    let mut i: usize = 0;
-    while i < 1024 {
-        let call = calls[i];
-        if i < n && call.key == key {
+    for i in 0..1024 {
+        if i < n && calls[i].key == key {
             return i;
         }
-        i += 1;
     }
-    i
+    1024
 }
 
 // In which field alone two bookings differ, in the order of document 02: 0 the guest, 1 the game, 2 the joined time, 3 the rating, 4 the
@@ -138,7 +135,7 @@ impl Originals {
                 key: call.key,
                 booking: calls::booking_of(call),
                 kind: call.kind,
-                answer: answer,
+                answer,
             };
             longer.len = n + 1;
         }

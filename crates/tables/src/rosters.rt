@@ -35,20 +35,16 @@ pub fn rating(guest: u64) -> f64 {
 
 fn ids() -> [u64; 128] {
     let mut ids = [0u64; 128];
-    let mut i: usize = 0;
-    while i < 128 {
+    for i in 0..128 {
         ids[i] = i as u64 + 1;
-        i += 1;
     }
     ids
 }
 
 fn ratings() -> [f64; 128] {
     let mut ratings = [0.0f64; 128];
-    let mut i: usize = 0;
-    while i < 128 {
+    for i in 0..128 {
         ratings[i] = rating(i as u64 + 1);
-        i += 1;
     }
     ratings
 }
@@ -62,7 +58,7 @@ pub fn guests() -> Roster {
         ids: ids(),
         ratings: ratings(),
         deviations: [50.0; 128],
-        parties: parties,
+        parties,
     }
 }
 

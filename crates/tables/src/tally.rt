@@ -122,8 +122,7 @@ impl Tally {
 
 // How often each refusal came, of those that came.
 fn report_refusals(counts: [u64; 16]) {
-    let mut i: usize = 1;
-    while i < 16 {
+    for i in 1..16 {
         if counts[i] != 0 {
             text::say(b", refusal ");
             text::number(i as u64);
@@ -131,7 +130,6 @@ fn report_refusals(counts: [u64; 16]) {
             text::number(counts[i]);
             text::say(b" times");
         }
-        i += 1;
     }
 }
 

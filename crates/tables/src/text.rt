@@ -20,14 +20,12 @@ fn two_digits(n: u64) {
 
 // The hundredths of a number from 0.0 on, at most 100.
 fn hundredths(x: f64) -> u64 {
-    let mut n: u64 = 0;
-    while n < 100 {
+    for n in 0..100 {
         if x < std::num::nearest_u64_to_f64(n + 1) / 100.0 {
             return n;
         }
-        n += 1;
     }
-    n
+    100
 }
 
 // A quality to two places.
@@ -64,13 +62,11 @@ pub fn refusal(n: u8) {
 
 // The guests from a place of the sheet up to another.
 fn guests(players: &[u64; 64], from: usize, to: usize) {
-    let mut i: usize = 0;
-    while i < 64 {
+    for i in 0..64 {
         if from <= i && i < to {
             say(b" ");
             number(players[i]);
         }
-        i += 1;
     }
 }
 
@@ -87,11 +83,9 @@ fn teams(players: &[u64; 64], from: usize, a: usize, b: usize) {
 fn matches(players: &[u64; 64], n: usize, a: usize, b: usize) {
     let each = std::num::wrapping_add_usize(a, b);
     let mut at: usize = 0;
-    let mut i: usize = 0;
-    while i < n {
+    for i in 0..n {
         teams(players, at, a, b);
         at = std::num::wrapping_add_usize(at, each);
-        i += 1;
     }
 }
 

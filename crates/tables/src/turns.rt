@@ -21,12 +21,10 @@ fn has_enough(hall: Hall, game: u8) -> bool {
 }
 
 fn any_has_enough(hall: Hall) -> bool {
-    let mut game: u8 = 0;
-    while game < 8 {
+    for game in 0..8 {
         if has_enough(hall, game) {
             return true;
         }
-        game += 1;
     }
     false
 }
@@ -69,10 +67,8 @@ impl Turns {
     // Every game after a dispatch that was not refused.
     pub fn after(self, before: Hall, served: u8) -> Turns {
         let mut turns = self;
-        let mut game: u8 = 0;
-        while game < 8 {
+        for game in 0..8 {
             turns = turns.stepped(before, served, game);
-            game += 1;
         }
         turns
     }
@@ -80,10 +76,8 @@ impl Turns {
     // How often the game that is longest without a turn was passed over.
     pub fn longest(self) -> u64 {
         let mut longest: u64 = 0;
-        let mut game: u8 = 0;
-        while game < 8 {
+        for game in 0..8 {
             longest = greater(longest, self.at(game));
-            game += 1;
         }
         longest
     }

@@ -31,18 +31,16 @@ fn listed(text: &[u8], from: Cursor, n: usize) -> ReadCandidates
 {
     let mut candidates = [nothing(); 64];
     let mut cursor = from;
-    let mut i: usize = 0;
-    while i < n {
+    for i in 0..n {
         let read = teams::proposed(text, cursor);
         let next = read.proposed;
         candidates[i] = next;
         cursor = read.cursor;
-        i += 1;
     }
     ReadCandidates {
-        candidates: candidates,
+        candidates,
         count: n,
-        cursor: cursor,
+        cursor,
     }
 }
 
@@ -55,7 +53,7 @@ pub fn read(text: &[u8], from: Cursor) -> ReadCandidates {
         return ReadCandidates {
             candidates: [nothing(); 64],
             count: n,
-            cursor: cursor,
+            cursor,
         };
     }
     listed(text, cursor, n)

@@ -14,10 +14,7 @@ pub fn numbers(text: &[u8], from: Cursor, out: &mut [u64]) -> Listed
     let cursor = read.cursor;
     let rows = out.len();
     if read.value as usize == rows {
-        return Listed {
-            len: rows,
-            cursor: cursor,
-        };
+        return Listed { len: rows, cursor };
     }
     lists::numbers(text, from, out)
 }
@@ -30,10 +27,7 @@ pub fn of_floats(text: &[u8], from: Cursor, out: &mut [f64]) -> Listed
     let cursor = read.cursor;
     let rows = out.len();
     if read.value as usize == rows {
-        return Listed {
-            len: rows,
-            cursor: cursor,
-        };
+        return Listed { len: rows, cursor };
     }
     lists::of_floats(text, from, out)
 }
@@ -46,10 +40,7 @@ pub fn halves(text: &[u8], from: Cursor, out: &mut [u32]) -> Listed
     let cursor = read.cursor;
     let rows = out.len();
     if read.value as usize == rows {
-        return Listed {
-            len: rows,
-            cursor: cursor,
-        };
+        return Listed { len: rows, cursor };
     }
     lists::halves(text, from, out)
 }
@@ -62,10 +53,7 @@ pub fn bytes(text: &[u8], from: Cursor, out: &mut [u8]) -> Listed
     let cursor = read.cursor;
     let rows = out.len();
     if read.value as usize == rows {
-        return Listed {
-            len: rows,
-            cursor: cursor,
-        };
+        return Listed { len: rows, cursor };
     }
     lists::bytes(text, from, out)
 }

@@ -31,10 +31,7 @@ pub fn sizes(text: &[u8], from: Cursor) -> ReadSizes {
         b: b.value as usize,
     };
     let cursor = b.cursor;
-    ReadSizes {
-        sizes: sizes,
-        cursor: cursor,
-    }
+    ReadSizes { sizes, cursor }
 }
 
 // What is brought, as five times 0 or 1 (sizes roles parties latency regions).
@@ -52,10 +49,7 @@ fn brought(text: &[u8], from: Cursor) -> ReadBrought {
         regions: regions.value,
     };
     let cursor = regions.cursor;
-    ReadBrought {
-        brought: brought,
-        cursor: cursor,
-    }
+    ReadBrought { brought, cursor }
 }
 
 pub fn read(text: &[u8], from: Cursor) -> ReadConstraints {
@@ -68,14 +62,14 @@ pub fn read(text: &[u8], from: Cursor) -> ReadConstraints {
     let roles = third.roles;
     let regions = fourth.regions;
     let constraints = Constraints {
-        brought: brought,
-        sizes: sizes,
-        roles: roles,
-        regions: regions,
+        brought,
+        sizes,
+        roles,
+        regions,
     };
     let cursor = fourth.cursor;
     ReadConstraints {
-        constraints: constraints,
-        cursor: cursor,
+        constraints,
+        cursor,
     }
 }

@@ -26,10 +26,7 @@ pub fn vector(text: &[u8], from: Cursor) -> ReadVector {
         utilization: base::from_bits(utilization.value),
     };
     let cursor = utilization.cursor;
-    ReadVector {
-        vector: vector,
-        cursor: cursor,
-    }
+    ReadVector { vector, cursor }
 }
 
 // Weights are read as a vector.

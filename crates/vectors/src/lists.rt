@@ -26,10 +26,7 @@ pub fn size(text: &[u8], from: Cursor, room: usize) -> Listed
             cursor: failed,
         };
     }
-    Listed {
-        len: n,
-        cursor: cursor,
-    }
+    Listed { len: n, cursor }
 }
 
 // Whole words.
@@ -39,17 +36,12 @@ pub fn numbers(text: &[u8], from: Cursor, out: &mut [u64]) -> Listed
     let listed = size(text, from, out.len());
     let n = listed.len;
     let mut cursor = listed.cursor;
-    let mut i: usize = 0;
-    while i < n {
+    for i in 0..n {
         let read = words::next(text, cursor);
         out[i] = read.value;
         cursor = read.cursor;
-        i += 1;
     }
-    Listed {
-        len: n,
-        cursor: cursor,
-    }
+    Listed { len: n, cursor }
 }
 
 // Bits of floats.
@@ -59,17 +51,12 @@ pub fn of_floats(text: &[u8], from: Cursor, out: &mut [f64]) -> Listed
     let listed = size(text, from, out.len());
     let n = listed.len;
     let mut cursor = listed.cursor;
-    let mut i: usize = 0;
-    while i < n {
+    for i in 0..n {
         let read = words::next(text, cursor);
         out[i] = base::from_bits(read.value);
         cursor = read.cursor;
-        i += 1;
     }
-    Listed {
-        len: n,
-        cursor: cursor,
-    }
+    Listed { len: n, cursor }
 }
 
 // Words below 2^32.
@@ -79,17 +66,12 @@ pub fn halves(text: &[u8], from: Cursor, out: &mut [u32]) -> Listed
     let listed = size(text, from, out.len());
     let n = listed.len;
     let mut cursor = listed.cursor;
-    let mut i: usize = 0;
-    while i < n {
+    for i in 0..n {
         let read = words::next(text, cursor);
         out[i] = words::low_half(read.value);
         cursor = words::checked(read.cursor, read.value < 4294967296);
-        i += 1;
     }
-    Listed {
-        len: n,
-        cursor: cursor,
-    }
+    Listed { len: n, cursor }
 }
 
 // Words below 256.
@@ -99,15 +81,10 @@ pub fn bytes(text: &[u8], from: Cursor, out: &mut [u8]) -> Listed
     let listed = size(text, from, out.len());
     let n = listed.len;
     let mut cursor = listed.cursor;
-    let mut i: usize = 0;
-    while i < n {
+    for i in 0..n {
         let read = words::next(text, cursor);
         out[i] = words::low_byte(read.value);
         cursor = words::checked(read.cursor, read.value < 256);
-        i += 1;
     }
-    Listed {
-        len: n,
-        cursor: cursor,
-    }
+    Listed { len: n, cursor }
 }

@@ -97,6 +97,7 @@ fn lines(text: &[u8], replayed: &mut [u64; 32], differ: &mut [u64; 32]) {
     let mut told: u64 = 0;
     let mut number: u64 = 1;
     let mut at: usize = 0;
+    // No count: the end of a line says where the next begins.
     while at < text.len() {
         told = line(text, at, number, told, replayed, differ);
         number = tally::one_more(number);

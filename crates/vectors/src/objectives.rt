@@ -24,22 +24,20 @@ fn listed(text: &[u8], from: Cursor, n: usize) -> ReadObjectives
     let mut weights = [0.0f64; 8];
     let mut known = true;
     let mut cursor = from;
-    let mut i: usize = 0;
-    while i < n {
+    for i in 0..n {
         let kind = words::next(text, cursor);
         let weight = words::next(text, kind.cursor);
         kinds[i] = kind.value;
         weights[i] = base::from_bits(weight.value);
         known = known && kind.value < 3;
         cursor = words::checked(weight.cursor, kind.value < 256);
-        i += 1;
     }
     ReadObjectives {
-        kinds: kinds,
-        weights: weights,
+        kinds,
+        weights,
         count: n,
-        known: known,
-        cursor: cursor,
+        known,
+        cursor,
     }
 }
 
@@ -66,10 +64,8 @@ fn objective(kind: u64, weight: f64) -> SoftObjective {
 // All eight, as objectives.
 pub fn of_kinds(kinds: [u64; 8], weights: [f64; 8]) -> [SoftObjective; 8] {
     let mut out = [SoftObjective::Wait(0.0); 8];
-    let mut i: usize = 0;
-    while i < 8 {
+    for i in 0..8 {
         out[i] = objective(kinds[i], weights[i]);
-        i += 1;
     }
     out
 }

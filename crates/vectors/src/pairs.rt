@@ -28,10 +28,7 @@ fn pair(text: &[u8], from: Cursor) -> ReadPair {
         second: words::low_byte(second.value),
     };
     let cursor = words::checked(second.cursor, fits);
-    ReadPair {
-        pair: pair,
-        cursor: cursor,
-    }
+    ReadPair { pair, cursor }
 }
 
 // Stands where nothing is read.
@@ -48,20 +45,15 @@ fn listed(text: &[u8], from: Cursor, n: usize) -> ReadPairs
 {
     let mut pairs = [nothing(); 16];
     let mut cursor = from;
-    let mut i: usize = 0;
-    while i < n {
+    for i in 0..n {
         let read = pair(text, cursor);
         let next = read.pair;
         pairs[i] = next;
         cursor = read.cursor;
-        i += 1;
     }
     ReadPairs {
-        regions: RegionConstraint {
-            pairs: pairs,
-            count: n,
-        },
-        cursor: cursor,
+        regions: RegionConstraint { pairs, count: n },
+        cursor,
     }
 }
 
@@ -76,7 +68,7 @@ pub fn read(text: &[u8], from: Cursor) -> ReadPairs {
                 pairs: [nothing(); 16],
                 count: n,
             },
-            cursor: cursor,
+            cursor,
         };
     }
     listed(text, cursor, n)

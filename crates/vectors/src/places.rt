@@ -10,10 +10,8 @@ fn expect_places(text: &[u8], from: Cursor, places: [usize; 64], n: usize) -> Cu
     requires { n ≤ 64 }
 {
     let mut cursor = from;
-    let mut i: usize = 0;
-    while i < n {
+    for i in 0..n {
         cursor = words::expect(text, cursor, places[i] as u64);
-        i += 1;
     }
     cursor
 }

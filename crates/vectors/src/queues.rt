@@ -32,10 +32,7 @@ pub fn entry(text: &[u8], from: Cursor) -> ReadEntry {
         role: words::low_half(role.value),
     };
     let cursor = words::checked(role.cursor, fits);
-    ReadEntry {
-        entry: entry,
-        cursor: cursor,
-    }
+    ReadEntry { entry, cursor }
 }
 
 // n entries.
@@ -45,20 +42,15 @@ fn entries(text: &[u8], from: Cursor, n: usize) -> ReadQueue
     let empty = Queue::empty();
     let mut entries = empty.entries;
     let mut cursor = from;
-    let mut i: usize = 0;
-    while i < n {
+    for i in 0..n {
         let read = entry(text, cursor);
         let next = read.entry;
         entries[i] = next;
         cursor = read.cursor;
-        i += 1;
     }
     ReadQueue {
-        queue: Queue {
-            entries: entries,
-            len: n,
-        },
-        cursor: cursor,
+        queue: Queue { entries, len: n },
+        cursor,
     }
 }
 
@@ -71,11 +63,8 @@ pub fn queue(text: &[u8], from: Cursor) -> ReadQueue {
         let empty = Queue::empty();
         let entries = empty.entries;
         return ReadQueue {
-            queue: Queue {
-                entries: entries,
-                len: n,
-            },
-            cursor: cursor,
+            queue: Queue { entries, len: n },
+            cursor,
         };
     }
     entries(text, cursor, n)
@@ -94,10 +83,8 @@ fn expect_entries(text: &[u8], from: Cursor, entries: [QueueEntry; 64], n: usize
     requires { n ≤ 64 }
 {
     let mut cursor = from;
-    let mut i: usize = 0;
-    while i < n {
+    for i in 0..n {
         cursor = expect_entry(text, cursor, entries[i]);
-        i += 1;
     }
     cursor
 }

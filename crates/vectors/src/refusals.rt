@@ -1,5 +1,5 @@
 // Refusals as the numbers of document 01, 0 for none.
-use base::{Checked, Refusal};
+use base::Refusal;
 
 // The number of a refusal.
 pub fn number(refusal: Refusal) -> u64 {
@@ -8,9 +8,9 @@ pub fn number(refusal: Refusal) -> u64 {
 }
 
 // The number of what a check answers.
-pub fn answered(answer: Checked) -> u64 {
+pub fn answered(answer: Result<(), Refusal>) -> u64 {
     match answer {
-        Checked::Passed => 0,
-        Checked::Refused(refusal) => number(refusal),
+        Ok(()) => 0,
+        Err(refusal) => number(refusal),
     }
 }

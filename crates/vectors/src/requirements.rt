@@ -3,7 +3,7 @@ ghost use Rattle.std.specs.Prelude.{◌≤◌};
 
 use crate::words;
 use constraint::roles;
-use roles::{Maximum, RoleConstraint, RoleRequirement};
+use roles::{RoleConstraint, RoleRequirement};
 use words::Cursor;
 
 #[derive(Clone, Copy)]
@@ -19,11 +19,8 @@ pub struct ReadRequirements {
 }
 
 // The last word counts only where it is bounded.
-fn maximum(bounded: bool, most: usize) -> Maximum {
-    if bounded {
-        return Maximum::AtMost(most);
-    }
-    Maximum::Unbounded
+fn maximum(bounded: bool, most: usize) -> Option<usize> {
+    if bounded { Some(most) } else { None }
 }
 
 fn requirement(text: &[u8], from: Cursor) -> ReadRequirement {
@@ -40,8 +37,8 @@ fn requirement(text: &[u8], from: Cursor) -> ReadRequirement {
     };
     let cursor = words::checked(most.cursor, fits);
     ReadRequirement {
-        requirement: requirement,
-        cursor: cursor,
+        requirement,
+        cursor,
     }
 }
 
@@ -50,7 +47,7 @@ fn nothing() -> RoleRequirement {
     RoleRequirement {
         role: 0,
         least: 0,
-        most: Maximum::Unbounded,
+        most: None,
     }
 }
 
@@ -60,20 +57,18 @@ fn listed(text: &[u8], from: Cursor, n: usize) -> ReadRequirements
 {
     let mut requirements = [nothing(); 8];
     let mut cursor = from;
-    let mut i: usize = 0;
-    while i < n {
+    for i in 0..n {
         let read = requirement(text, cursor);
         let next = read.requirement;
         requirements[i] = next;
         cursor = read.cursor;
-        i += 1;
     }
     ReadRequirements {
         roles: RoleConstraint {
-            requirements: requirements,
+            requirements,
             count: n,
         },
-        cursor: cursor,
+        cursor,
     }
 }
 
@@ -88,7 +83,7 @@ pub fn read(text: &[u8], from: Cursor) -> ReadRequirements {
                 requirements: [nothing(); 8],
                 count: n,
             },
-            cursor: cursor,
+            cursor,
         };
     }
     listed(text, cursor, n)

@@ -1,8 +1,6 @@
 // Floats that may be refused, as refusal value. The value is 0.0 where it is refused.
 use crate::{floats, refusals, words};
 use base::Refusal;
-use objective::score;
-use score::Score;
 use words::Cursor;
 
 pub fn expect_refused(text: &[u8], from: Cursor, refusal: Refusal) -> Cursor {
@@ -15,9 +13,9 @@ pub fn expect_value(text: &[u8], from: Cursor, value: f64) -> Cursor {
     floats::expect(text, passed, value)
 }
 
-pub fn expect(text: &[u8], from: Cursor, given: Score) -> Cursor {
+pub fn expect(text: &[u8], from: Cursor, given: Result<f64, Refusal>) -> Cursor {
     match given {
-        Score::Refused(refusal) => expect_refused(text, from, refusal),
-        Score::Of(value) => expect_value(text, from, value),
+        Err(refusal) => expect_refused(text, from, refusal),
+        Ok(value) => expect_value(text, from, value),
     }
 }

@@ -4,8 +4,9 @@
 ghost use Rattle.base.specs.Sheets.{Counts};
 
 use crate::{floats, lists, refusals, words};
+use base::Refusal;
 use lists::Listed;
-use seating::{Formed, TeamComposition};
+use seating::TeamComposition;
 use words::Cursor;
 
 #[derive(Clone, Copy)]
@@ -22,10 +23,7 @@ pub fn sizes(text: &[u8], from: Cursor) -> ReadSizes {
         b: b.value as usize,
     };
     let cursor = b.cursor;
-    ReadSizes {
-        sizes: sizes,
-        cursor: cursor,
-    }
+    ReadSizes { sizes, cursor }
 }
 
 // What a place for a player holds before a call.
@@ -39,10 +37,8 @@ pub fn players(text: &[u8], from: Cursor, out: &mut [u64]) -> Listed
 {
     let listed = lists::size(text, from, out.len());
     let n = listed.len;
-    let mut i: usize = 0;
-    while i < n {
+    for i in 0..n {
         out[i] = before(i);
-        i += 1;
     }
     listed
 }
@@ -53,10 +49,8 @@ pub fn qualities(text: &[u8], from: Cursor, out: &mut [f64]) -> Listed
 {
     let listed = lists::size(text, from, out.len());
     let n = listed.len;
-    let mut i: usize = 0;
-    while i < n {
+    for i in 0..n {
         out[i] = -1.0;
-        i += 1;
     }
     listed
 }
@@ -79,20 +73,16 @@ fn expect_quality(text: &[u8], from: Cursor, quality: f64, place: usize, written
 fn expect_players(text: &[u8], from: Cursor, sheet: &[u64]) -> Cursor {
     let written = words::next(text, from);
     let mut cursor = written.cursor;
-    let mut i: usize = 0;
-    while i < sheet.len() {
+    for i in 0..sheet.len() {
         cursor = expect_player(text, cursor, sheet[i], i, written.value);
-        i += 1;
     }
     cursor
 }
 
 fn expect_qualities(text: &[u8], from: Cursor, sheet: &[f64], count: u64) -> Cursor {
     let mut cursor = words::expect(text, from, count);
-    let mut i: usize = 0;
-    while i < sheet.len() {
+    for i in 0..sheet.len() {
         cursor = expect_quality(text, cursor, sheet[i], i, count);
-        i += 1;
     }
     cursor
 }
@@ -101,7 +91,7 @@ fn expect_qualities(text: &[u8], from: Cursor, sheet: &[f64], count: u64) -> Cur
 pub fn expect(
     text: &[u8],
     from: Cursor,
-    given: Formed,
+    given: Result<usize, Refusal>,
     players: &[u64],
     qualities: &[f64],
 ) -> Cursor {
@@ -111,16 +101,13 @@ pub fn expect(
 }
 
 // The number of the refusal, 0 for none.
-fn refused(given: Formed) -> u64 {
+fn refused(given: Result<usize, Refusal>) -> u64 {
     match given {
-        Formed::Refused(refusal) => refusals::number(refusal),
-        Formed::Count(count) => 0,
+        Err(refusal) => refusals::number(refusal),
+        Ok(_) => 0,
     }
 }
 
-fn count(given: Formed) -> u64 {
-    match given {
-        Formed::Refused(refusal) => 0,
-        Formed::Count(count) => count as u64,
-    }
+fn count(given: Result<usize, Refusal>) -> u64 {
+    given.unwrap_or(0) as u64
 }

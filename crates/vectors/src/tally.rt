@@ -57,20 +57,16 @@ fn report_one(code: u64, replayed: u64, differ: u64) {
 // The sum of the counts.
 fn total(counts: &[u64; 32]) -> u64 {
     let mut sum: u64 = 0;
-    let mut i: usize = 0;
-    while i < 32 {
+    for i in 0..32 {
         sum = std::num::wrapping_add_u64(sum, counts[i]);
-        i += 1;
     }
     sum
 }
 
 // A line for each function, and one for all.
 pub fn report(replayed: &[u64; 32], differ: &[u64; 32]) {
-    let mut i: usize = 0;
-    while i < 32 {
+    for i in 0..32 {
         report_one(i as u64, replayed[i], differ[i]);
-        i += 1;
     }
     io::print_decimal(1, total(replayed));
     io::write_all(1, b" answers replayed, ");

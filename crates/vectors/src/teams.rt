@@ -25,20 +25,14 @@ pub fn team(text: &[u8], from: Cursor) -> ReadTeam {
     let cursor = len.cursor;
     if 8 < n {
         return ReadTeam {
-            team: Team {
-                players: players,
-                len: n,
-            },
-            cursor: cursor,
+            team: Team { players, len: n },
+            cursor,
         };
     }
     let listed = lists::numbers(text, from, &mut players);
     let end = listed.cursor;
     ReadTeam {
-        team: Team {
-            players: players,
-            len: n,
-        },
+        team: Team { players, len: n },
         cursor: end,
     }
 }
@@ -51,7 +45,7 @@ pub fn proposed(text: &[u8], from: Cursor) -> ReadMatch {
     let cursor = second.cursor;
     ReadMatch {
         proposed: ProposedMatch { a: a, b: b },
-        cursor: cursor,
+        cursor,
     }
 }
 
@@ -59,10 +53,8 @@ fn expect_players(text: &[u8], from: Cursor, players: [u64; 8], n: usize) -> Cur
     requires { n ≤ 8 }
 {
     let mut cursor = from;
-    let mut i: usize = 0;
-    while i < n {
+    for i in 0..n {
         cursor = words::expect(text, cursor, players[i]);
-        i += 1;
     }
     cursor
 }

@@ -22,8 +22,5 @@ pub fn read(text: &[u8], from: Cursor) -> ReadWeights {
         uncertainty: base::from_bits(uncertainty.value),
     };
     let cursor = uncertainty.cursor;
-    ReadWeights {
-        weights: weights,
-        cursor: cursor,
-    }
+    ReadWeights { weights, cursor }
 }

@@ -50,15 +50,12 @@ pub fn next_line(text: &[u8], from: usize) -> usize
     requires { from < length text.now }
     ensures { (from < result) × (result ≤ length text.now) }
 {
-    let mut at = from;
-    while at < text.len() {
-        let b = text[at];
-        at += 1;
-        if b == b'\n' {
-            return at;
+    for at in from..text.len() {
+        if text[at] == b'\n' {
+            return at + 1;
         }
     }
-    at
+    text.len()
 }
 
 fn wide(b: u8) -> u64
@@ -83,9 +80,9 @@ fn word_of(text: &[u8], from: usize, at: usize, value: u64) -> Word {
     let some = from < at;
     let ends = ends_word(text, at);
     Word {
-        value: value,
+        value,
         cursor: Cursor {
-            at: at,
+            at,
             ok: some && ends,
         },
     }
@@ -94,8 +91,7 @@ fn word_of(text: &[u8], from: usize, at: usize, value: u64) -> Word {
 // The word that starts at `from`, of at least one digit and below 2^64.
 pub fn number(text: &[u8], from: usize) -> Word {
     let mut value: u64 = 0;
-    let mut at = from;
-    while at < text.len() {
+    for at in from..text.len() {
         let d = digit(text[at]);
         if 15 < d {
             return word_of(text, from, at, value);
@@ -105,9 +101,8 @@ pub fn number(text: &[u8], from: usize) -> Word {
             return word_of(text, at, at, 0);
         }
         value = value * 16 + d;
-        at += 1;
     }
-    word_of(text, from, at, value)
+    word_of(text, from, from.max(text.len()), value)
 }
 
 fn nothing(at: usize) -> Word {

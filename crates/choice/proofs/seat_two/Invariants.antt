@@ -1,5 +1,5 @@
 -- Each player in turn takes the first of the last two seats; where all choices with that player are idle they are only counted.
-use Prim.Native.Nat.{◌+◌}
+use Prim.Native.Nat.{◌+◌, ◌-◌}
 use mathlib.Core.Path.{◌≡◌}
 use Rattle.matchmaker.specs.Quality.{match_of}
 use Rattle.candidate.specs.Choices.{ways}
@@ -9,7 +9,4 @@ use Rattle.choice.proofs.Onward.{Onward}
 use Rattle.choice.proofs.seat_two.Given as goal
 
 abbrev pub invariant-loop-behind : goal.invariant-loop-behind
-invariant-loop-behind l = (l.at + l.behind ≡ l.from + l.rest) × ((l.out.tried + ways l.behind 2 ≡ l.initial.out.tried + ways l.rest 2) × Onward l.sizes (columns l.queued l.rows l.rated l.admits l.counts l.same l.expected l.foes) l.bounds l.from l.rest 2 (match_of l.teams) l.sums l.tally l.objectives l.count (so_far_of l.initial.out) l.at l.behind (so_far_of l.out))
-
-abbrev pub decreases-loop-behind : goal.decreases-loop-behind
-decreases-loop-behind l = l.behind
+invariant-loop-behind l = (l.out.tried + ways l.behind 2 ≡ l.initial.out.tried + ways l.rest 2) × Onward l.sizes (columns l.queued l.rows l.rated l.admits l.counts l.same l.expected l.foes) l.bounds l.from l.rest 2 (match_of l.teams) l.sums l.tally l.objectives l.count (so_far_of l.initial.out) (l.from + l.rest - l.behind) l.behind (so_far_of l.out)

@@ -10,7 +10,7 @@ use Rattle.base.specs.Floats as Floats
 use Rattle.base.specs.Lists.{any}
 use Rattle.base.specs.Refusals.{Outcome, gives}
 use Rattle.base.proofs.Arrays.{unmapped}
-use Rattle.base.proofs.Places.{length_places, places_below, take_places}
+use Rattle.base.proofs.Places.{places_below, take_places}
 use Rattle.base.proofs.Sheets.{written_reads}
 use Rattle.queue.specs.declared.QueueEntry.{QueueEntry}
 use Rattle.queue.specs.Time.{time_over}
@@ -27,12 +27,6 @@ use Rattle.greedy.proofs.Papers.{out_alike}
 use borrow.Author.Rules.{rules}
 use Rattle.greedy.proofs.matches.Goals as goal
 
-pub slice_bounds-joined-end : goal.slice_bounds-joined-end
-slice_bounds-joined-end c = omega (arith, c.requires.a_bound.1.1, c.read.ensures.joined_len_2.0)
-
-pub slice_bounds-any_over-end : goal.slice_bounds-any_over-end
-slice_bounds-any_over-end c = sym (length-take-le _ _ (omega (arith, c.requires.a_bound.1.1, c.read.ensures.joined_len_2.0)))
-
 pub returns-then-any_over : goal.returns-then-any_over
 returns-then-any_over c =
     let a = c.args in
@@ -40,20 +34,8 @@ returns-then-any_over c =
     let r = of_ratings a.ids.now a.ratings.now in
     let quality : MatchState → Float = λ m. quality_of r m.a.players m.b.players in
     let sheets : Sheets = record { players = a.seats.now; qualities = a.qualities.now } in
-    let over : any joined_over queue ≡ true = sym (c.any_over.ensures ∙ ap (any time_over) c.read.ensures.joined_len_2.1 ∙ over_column queue) ∙ c.if-any_over.true in
+    let over : any joined_over queue ≡ true = sym (c.any_over.ensures ∙ ap (any time_over) c.read.ensures.joined_after ∙ over_column queue) ∙ c.if-any_over.true in
     ap (λ (o : Outcome (List MatchState)). handed_out quality o sheets) (time_over_lem (gives (greedy_matches a.sizes r queue)) over)
-
-pub slice_bounds-players-end : goal.slice_bounds-players-end
-slice_bounds-players-end c = omega (arith, c.requires.a_bound.1.1, c.read.ensures.players_len_2.0)
-
-pub slice_bounds-write_values-end : goal.slice_bounds-write_values-end
-slice_bounds-write_values-end c = sym (length-take-le _ _ (omega (arith, c.requires.a_bound.1.1, c.read.ensures.players_len_2.0)))
-
-pub slice_bounds-joined-end-2 : goal.slice_bounds-joined-end-2
-slice_bounds-joined-end-2 c = omega (arith, c.requires.a_bound.1.1, c.read.ensures.joined_len_2.0)
-
-pub slice_bounds-never_falls-end : goal.slice_bounds-never_falls-end
-slice_bounds-never_falls-end c = sym (length-take-le _ _ (omega (arith, c.requires.a_bound.1.1, c.read.ensures.joined_len_2.0)))
 
 pub match_all-requires : goal.match_all-requires
 match_all-requires c =
@@ -61,7 +43,8 @@ match_all-requires c =
     let fits = c.requires.a_bound.1.1 in
     let read = c.read.ensures in
     let come = c.as_they_come-turns.ensures in
-    record { a_bound = c.requires.a_bound; players_len = read.players_len_2.0; entered_len = read.entered_len_2.0; turns_len = (ap length come ∙ length_places 0 64, rw (come, take_places 0 64 n fits) (places_below 0 n n (omega arith))); n_in_bounds = omega (arith, fits, c.requires.in_bounds_2) }
+    let v : length (take n c.read.new.players) ≡ n = length-take-le n c.read.new.players (search rules) in
+    record { sizes_bound = (c.requires.a_bound.0, c.requires.a_bound.1.0); turns_bound = rw v (fits, rw (come, take_places 0 64 n fits) (places_below 0 n n (omega arith))); in_bounds = rw v (omega (arith, fits, c.requires.in_bounds_2)) }
 
 pub returns-then-never_falls : goal.returns-then-never_falls
 returns-then-never_falls c =
@@ -77,13 +60,14 @@ returns-then-never_falls c =
     let r = of_ratings a.ids.now a.ratings.now in
     let sheets : Sheets = record { players = a.seats.now; qualities = a.qualities.now } in
     let players = c.read.new.players in
-    let many : n ≡ length (take n players) = whole ∙ sym (length-map queue (λ (e : QueueEntry). e.player)) ∙ sym (ap length read.players_len_2.1) in
-    let known = written_reads (roster_rating r) (take n players) (replicate 64 Floats.zero) many fits c.write_values.ensures ∙ ap (map (roster_rating r)) read.players_len_2.1 ∙ map-map (roster_rating r) (λ e. e.player) queue in
-    let from : FromQueue r queue n players _ _ _ = record { whole = whole; named = read.players_len_2.1; rated = read.entered_len_2.1; known = known; timed = read.joined_len_2.1 } in
-    let none : any joined_over queue ≡ false = sym (c.any_over.ensures ∙ ap (any time_over) read.joined_len_2.1 ∙ over_column queue) ∙ c.if-any_over.false in
+    let many : n ≡ length (take n players) = whole ∙ sym (length-map queue (λ (e : QueueEntry). e.player)) ∙ sym (ap length read.players_after) in
+    let known = written_reads (roster_rating r) (take n players) (replicate 64 Floats.zero) many fits c.write_values.ensures ∙ ap (map (roster_rating r)) read.players_after ∙ map-map (roster_rating r) (λ e. e.player) queue in
+    let from : FromQueue r queue n players _ _ _ = record { whole = whole; named = read.players_after; rated = read.entered_after; known = known; timed = read.joined_after } in
+    let none : any joined_over queue ≡ false = sym (c.any_over.ensures ∙ ap (any time_over) read.joined_after ∙ over_column queue) ∙ c.if-any_over.false in
     let rises = sym c.never_falls.ensures ∙ c.if-never_falls.true in
+    let v : length (take n players) ≡ n = length-take-le n players (search rules) in
     let plain = in_order_plain a.sizes r queue n players _ _ _ from fits rises c.as_they_come-turns.ensures in
-    handed_matches a.sizes r queue sheets (omega (arith, whole, fits)) c.requires.in_bounds c.requires.in_bounds_2 none (out_alike plain c.match_all.ensures)
+    handed_matches a.sizes r queue sheets (omega (arith, whole, fits)) c.requires.in_bounds c.requires.in_bounds_2 none (out_alike plain (rw v at c.match_all.ensures))
 
 pub returns : goal.returns
 returns c =
@@ -99,8 +83,8 @@ returns c =
     let r = of_ratings a.ids.now a.ratings.now in
     let sheets : Sheets = record { players = a.seats.now; qualities = a.qualities.now } in
     let players = c.read.new.players in
-    let many : n ≡ length (take n players) = whole ∙ sym (length-map queue (λ (e : QueueEntry). e.player)) ∙ sym (ap length read.players_len_2.1) in
-    let known = written_reads (roster_rating r) (take n players) (replicate 64 Floats.zero) many fits c.write_values.ensures ∙ ap (map (roster_rating r)) read.players_len_2.1 ∙ map-map (roster_rating r) (λ e. e.player) queue in
-    let from : FromQueue r queue n players _ _ _ = record { whole = whole; named = read.players_len_2.1; rated = read.entered_len_2.1; known = known; timed = read.joined_len_2.1 } in
-    let none : any joined_over queue ≡ false = sym (c.any_over.ensures ∙ ap (any time_over) read.joined_len_2.1 ∙ over_column queue) ∙ c.if-any_over.false in
+    let many : n ≡ length (take n players) = whole ∙ sym (length-map queue (λ (e : QueueEntry). e.player)) ∙ sym (ap length read.players_after) in
+    let known = written_reads (roster_rating r) (take n players) (replicate 64 Floats.zero) many fits c.write_values.ensures ∙ ap (map (roster_rating r)) read.players_after ∙ map-map (roster_rating r) (λ e. e.player) queue in
+    let from : FromQueue r queue n players _ _ _ = record { whole = whole; named = read.players_after; rated = read.entered_after; known = known; timed = read.joined_after } in
+    let none : any joined_over queue ≡ false = sym (c.any_over.ensures ∙ ap (any time_over) read.joined_after ∙ over_column queue) ∙ c.if-any_over.false in
     handed_matches a.sizes r queue sheets (omega (arith, whole, fits)) c.requires.in_bounds c.requires.in_bounds_2 none (c.match_by_joining.ensures queue from)

@@ -11,26 +11,25 @@ use Rattle.greedy.proofs.pick_nearest.Goals as goal
 
 pub loop-i-init : goal.loop-i-init
 unfolding times
-loop-i-init c = (omega arith, (λ j. record { place = c.args.n; distance = one_by_zero j }), (λ j. record { place = c.args.n; distance = one_by_zero j }))
+loop-i-init c = ((λ j. record { place = c.args.n; distance = one_by_zero j }), (λ j. record { place = c.args.n; distance = one_by_zero j }))
 
 pub loop-i-preserved : goal.loop-i-preserved
 loop-i-preserved c =
     let s = c.args in
     let l = c.loop-i in
     let h = s.n / 2 in (
-      omega arith,
-      times_on (nearer_free s.reference s.free.now) (nobody_of s.n) l.i l.invariant.1 c.nearer-first.ensures,
-      times_on (nearer_from s.reference s.free.now h) (nobody_of s.n) l.i l.invariant.2 c.nearer-second.ensures,
+      times_on (nearer_free s.reference s.free.now) (nobody_of s.n) l.i l.invariant.0 c.nearer-first.ensures,
+      times_on (nearer_from s.reference s.free.now h) (nobody_of s.n) l.i l.invariant.1 c.nearer-second.ensures,
     )
 
 pub returns-then-half-n : goal.returns-then-half-n
 returns-then-half-n c =
     let s = c.args in
     let l = c.loop-i in
-    c.nearer_place.ensures ∙ found_odd s.reference s.free.now s.n (s.n / 2) l.i c.loop-i-test.false l.invariant.0 l.invariant.1 l.invariant.2 c.nearer.ensures (omega arith)
+    c.nearer_place.ensures ∙ found_odd s.reference s.free.now s.n (s.n / 2) l.i (omega arith) (omega arith) l.invariant.0 l.invariant.1 c.nearer.ensures (omega arith)
 
 pub returns : goal.returns
 returns c =
     let s = c.args in
     let l = c.loop-i in
-    c.nearer_place-2.ensures ∙ found_even s.reference s.free.now s.n (s.n / 2) l.i c.loop-i-test.false l.invariant.0 l.invariant.1 l.invariant.2 (omega arith) (omega arith)
+    c.nearer_place-2.ensures ∙ found_even s.reference s.free.now s.n (s.n / 2) l.i (omega arith) (omega arith) l.invariant.0 l.invariant.1 (omega arith) (omega arith)

@@ -4,4 +4,4 @@ use Rattle.matchmaker.proofs.Laws.{averaged}
 use Rattle.matchmaker.proofs.average.Goals as goal
 
 pub returns : goal.returns
-returns c = rw c.nearest_u64_to_f64.ensures (averaged c.args.sum c.args.len _ (grind arith))
+returns c = rw c.nearest_u64_to_f64.ensures (averaged c.args.sum c.args.len _ (omega arith))

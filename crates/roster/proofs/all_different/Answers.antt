@@ -1,4 +1,4 @@
--- `roster::all_different` meets its contract: ascending ids are all different, and of others the table tells, or each is held against all others.
+-- Ascending ids are all different, and of others the table tells, or each is held against all others.
 use mathlib.Core.Path.{sym}
 use Rattle.roster.proofs.all_different.Goals as goal
 

@@ -1,22 +1,13 @@
--- `roster::check_columns_with_regions` meets its contract: a refusal stays, and what passes is left to the regions.
-use mathlib.Core.Path.{sym, ◌∙◌}
-use lib.ListN.{take}
-use Rattle.roster.proofs.Laws.{refused_still, regions_decide}
+-- A refusal stays, and what passes is left to the regions.
+use Rattle.std.proofs.Common.{◌≡◌, ◌∙◌, ap, sym, rules}
+use Rattle.std.specs.Prelude.{Err}
+use Rattle.base.specs.Refusals.{outcome_of}
+use Rattle.roster.proofs.Laws.{refused_still}
 use Rattle.roster.proofs.check_columns_with_regions.Goals as goal
 
-pub returns-in_default : goal.returns-in_default
-returns-in_default c =
+pub returns-in_err-check_columns : goal.returns-in_err-check_columns
+returns-in_err-check_columns c =
     let a = c.args in
-    refused_still a.ids.now (take a.count a.lengths) a.regions.now _ c.in_default.is c.check_columns-columns.ensures
-
-pub returns-then-not-are_regions : goal.returns-then-not-are_regions
-returns-then-not-are_regions c =
-    let a = c.args in
-    regions_decide a.ids.now (take a.count a.lengths) a.regions.now _ c.in-Passed.is c.check_columns-columns.ensures
-    (sym c.are_regions.ensures ∙ c.if-not-are_regions.true)
-
-pub returns : goal.returns
-returns c =
-    let a = c.args in
-    regions_decide a.ids.now (take a.count a.lengths) a.regions.now _ c.in-Passed.is c.check_columns-columns.ensures
-    (sym c.are_regions.ensures ∙ c.if-not-are_regions.false)
+    let x = c.in_err-check_columns.field-0.0 in
+    let r : c.from_residual.result ≡ Err x = search rules in
+    ap outcome_of r ∙ ap outcome_of (sym (c.in_err-check_columns.was)) ∙ refused_still a.ids.now a.lengths.now a.regions.now c.check_columns.result (c.in_err-check_columns.was) c.check_columns.ensures

@@ -1,4 +1,4 @@
--- `roster::observed_at` meets its contract: where the column goes so far the answer stands in the row, and elsewhere there is none.
+-- Where the column goes so far the answer stands in the row, and elsewhere there is none.
 use mathlib.Core.Path.{sym}
 use native.Mathlib.Omega.{arith}
 use lib.Ieee.{nan}

@@ -1,4 +1,4 @@
--- `roster::row_by_guess` meets its contract: a guess that has the player is the only row that has.
+-- A guess that has the player is the only row that has.
 use native.Mathlib.Omega.{arith}
 use Rattle.roster.proofs.Laws.{only_row}
 use Rattle.roster.proofs.row_by_guess.Goals as goal

@@ -2,7 +2,7 @@
 use Rattle.objective.specs.declared.soft.SoftObjective.{SoftObjective}
 use Rattle.matchmaker.specs.declared.ProposedMatch.{ProposedMatch}
 use lib.Ieee.{Float}
-use Prim.Native.Nat.{ℕ, ◌-◌, ◌≤◌}
+use Prim.Native.Nat.{ℕ}
 use mathlib.Core.Path.{◌≡◌}
 use mathlib.Core.List.{map, List}
 use lib.ListN.{length, take}
@@ -16,7 +16,4 @@ abbrev score : List SoftObjective → ℕ → List ℕ → List Float → Propos
 score objectives count ids ratings candidate = soft_score_of (of_ratings ids ratings) (match_of candidate) (take count objectives)
 
 abbrev pub invariant-loop-i : goal.invariant-loop-i
-invariant-loop-i l = (l.i ≤ l.n) × (length l.out ≡ 64) × (take l.i l.out ≡ map (score l.objectives l.count l.ids l.ratings) (take l.i l.candidates))
-
-abbrev pub decreases-loop-i : goal.decreases-loop-i
-decreases-loop-i l = l.n - l.i
+invariant-loop-i l = (length l.out ≡ 64) × (take l.i l.out ≡ map (score l.objectives l.count l.ids l.ratings) (take l.i l.candidates))

@@ -27,10 +27,10 @@ fn before_columns(text: &[u8], inputs: Cursor) -> Asked {
     let cursor = weighed.cursor;
     Asked {
         width: width.value as usize,
-        queue: queue,
-        sizes: sizes,
-        weights: weights,
-        cursor: cursor,
+        queue,
+        sizes,
+        weights,
+        cursor,
     }
 }
 

@@ -1,6 +1,7 @@
 // queue, sizes, constraints, objectives, columns ids, ratings, parties, roles and regions -> refusal, found, match if found, tried
 use crate::{columns, constraints, objectives, queues, refusals, sheets, teams, words};
-use choice::{Choice, Decision};
+use base::Refusal;
+use choice::Choice;
 use constraint::Constraints;
 use matchmaker::ProposedMatch;
 use objectives::ReadObjectives;
@@ -28,11 +29,11 @@ fn before_columns(text: &[u8], inputs: Cursor) -> Asked {
     let constraints = brought.constraints;
     let cursor = listed.cursor;
     Asked {
-        queue: queue,
-        sizes: sizes,
-        constraints: constraints,
-        listed: listed,
-        cursor: cursor,
+        queue,
+        sizes,
+        constraints,
+        listed,
+        cursor,
     }
 }
 
@@ -104,14 +105,13 @@ fn after_columns(
 }
 
 // Past the next words, which have to be the choice.
-fn expect(text: &[u8], from: Cursor, given: Choice) -> Cursor {
-    let tried = given.tried;
-    let teams = given.teams;
-    let decision = given.decision;
-    match decision {
-        Decision::Refused(refusal) => expect_nothing(text, from, refusals::number(refusal), tried),
-        Decision::Nothing => expect_nothing(text, from, 0, tried),
-        Decision::Chosen => expect_chosen(text, from, teams, tried),
+fn expect(text: &[u8], from: Cursor, given: Result<Choice, Refusal>) -> Cursor {
+    match given {
+        Err(refusal) => expect_nothing(text, from, refusals::number(refusal), 0),
+        Ok(choice) => match choice.best {
+            Some(teams) => expect_chosen(text, from, teams, choice.tried),
+            None => expect_nothing(text, from, 0, choice.tried),
+        },
     }
 }
 

@@ -1,7 +1,6 @@
 // later earlier -> refusal, nanos
 use crate::{refusals, words};
 use queue::time;
-use time::Duration;
 use words::Cursor;
 
 pub fn replay(text: &[u8], inputs: Cursor) -> Cursor {
@@ -9,12 +8,7 @@ pub fn replay(text: &[u8], inputs: Cursor) -> Cursor {
     let earlier = words::next(text, later.cursor);
     let given = time::duration_since(later.value, earlier.value);
     match given {
-        Duration::Refused(refusal) => words::expect_both(
-            text,
-            earlier.cursor,
-            refusals::number(refusal),
-            0,
-        ),
-        Duration::Of(nanos) => words::expect_both(text, earlier.cursor, 0, nanos),
+        Err(refusal) => words::expect_both(text, earlier.cursor, refusals::number(refusal), 0),
+        Ok(nanos) => words::expect_both(text, earlier.cursor, 0, nanos),
     }
 }

@@ -1,6 +1,5 @@
 // match, columns ids and ratings -> refusal, value
 use crate::{columns, scores, teams, words};
-use matchmaker::Quality;
 use words::Cursor;
 
 pub fn replay(text: &[u8], inputs: Cursor) -> Cursor {
@@ -13,8 +12,5 @@ pub fn replay(text: &[u8], inputs: Cursor) -> Cursor {
     let m = second.len;
     let proposed = teams.proposed;
     let given = proposed.match_quality(&ids[..n], &ratings[..m]);
-    match given {
-        Quality::Refused(refusal) => scores::expect_refused(text, second.cursor, refusal),
-        Quality::Of(value) => scores::expect_value(text, second.cursor, value),
-    }
+    scores::expect(text, second.cursor, given)
 }

@@ -1,6 +1,7 @@
 // queue player -> refusal, found, entry if found, queue
 use crate::{queues, refusals, words};
-use queue::Taken;
+use base::Refusal;
+use queue::QueueEntry;
 use words::Cursor;
 
 pub fn replay(text: &[u8], inputs: Cursor) -> Cursor {
@@ -15,11 +16,11 @@ pub fn replay(text: &[u8], inputs: Cursor) -> Cursor {
 }
 
 // Past the refusal, found, and the entry if found.
-fn expect_taken(text: &[u8], from: Cursor, taken: Taken) -> Cursor {
+fn expect_taken(text: &[u8], from: Cursor, taken: Result<Option<QueueEntry>, Refusal>) -> Cursor {
     match taken {
-        Taken::Refused(refusal) => words::expect_both(text, from, refusals::number(refusal), 0),
-        Taken::Nobody => words::expect_both(text, from, 0, 0),
-        Taken::Entry(entry) => {
+        Err(refusal) => words::expect_both(text, from, refusals::number(refusal), 0),
+        Ok(None) => words::expect_both(text, from, 0, 0),
+        Ok(Some(entry)) => {
             let found = words::expect_both(text, from, 0, 1);
             queues::expect_entry(text, found, entry)
         }

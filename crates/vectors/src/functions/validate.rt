@@ -1,5 +1,6 @@
 // size, requirements, team, columns ids and roles -> refusal, place, fault
 use crate::{columns, refusals, requirements, teams, words};
+use base::Refusal;
 use constraint::teams::{TeamConstraint, Validity};
 use words::Cursor;
 
@@ -23,16 +24,16 @@ pub fn replay(text: &[u8], inputs: Cursor) -> Cursor {
 }
 
 // Past the refusal, the place and the fault: 0 none, 1 the size, 2 too few, 3 too many.
-fn expect_validity(text: &[u8], from: Cursor, given: Validity) -> Cursor {
+fn expect_validity(text: &[u8], from: Cursor, given: Result<Validity, Refusal>) -> Cursor {
     match given {
-        Validity::Refused(refusal) => {
+        Err(refusal) => {
             let refused = words::expect(text, from, refusals::number(refusal));
             words::expect_both(text, refused, 0, 0)
         }
-        Validity::Valid => expect_fault(text, from, 0, 0),
-        Validity::WrongSize => expect_fault(text, from, 0, 1),
-        Validity::TooFew(place) => expect_fault(text, from, place, 2),
-        Validity::TooMany(place) => expect_fault(text, from, place, 3),
+        Ok(Validity::Valid) => expect_fault(text, from, 0, 0),
+        Ok(Validity::WrongSize) => expect_fault(text, from, 0, 1),
+        Ok(Validity::TooFew(place)) => expect_fault(text, from, place, 2),
+        Ok(Validity::TooMany(place)) => expect_fault(text, from, place, 3),
     }
 }
 

@@ -1,6 +1,6 @@
 // queue player now -> refusal, found, wait
 use crate::{queues, refusals, words};
-use queue::Wait;
+use base::Refusal;
 use words::Cursor;
 
 pub fn replay(text: &[u8], inputs: Cursor) -> Cursor {
@@ -13,17 +13,17 @@ pub fn replay(text: &[u8], inputs: Cursor) -> Cursor {
 }
 
 // Past the refusal, found and the wait.
-fn expect_wait(text: &[u8], from: Cursor, wait: Wait) -> Cursor {
+fn expect_wait(text: &[u8], from: Cursor, wait: Result<Option<u64>, Refusal>) -> Cursor {
     match wait {
-        Wait::Refused(refusal) => {
+        Err(refusal) => {
             let refused = words::expect(text, from, refusals::number(refusal));
             words::expect_both(text, refused, 0, 0)
         }
-        Wait::Nobody => {
+        Ok(None) => {
             let passed = words::expect(text, from, 0);
             words::expect_both(text, passed, 0, 0)
         }
-        Wait::Of(nanos) => {
+        Ok(Some(nanos)) => {
             let passed = words::expect(text, from, 0);
             words::expect_both(text, passed, 1, nanos)
         }

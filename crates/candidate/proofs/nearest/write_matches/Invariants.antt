@@ -1,13 +1,8 @@
--- What stands on the sheet is the row of the matches so far; each turn lends the rest of the sheet for one match more.
-use Prim.Native.Nat.{◌*◌, ◌-◌, ◌≤◌}
+-- A copy from the front of the sheet: the players at the places so far, and the sheet beyond.
 use mathlib.Core.Path.{◌≡◌}
-use lib.ListN.{length}
-use Rattle.seating.specs.Steps.{overlaid}
-use Rattle.candidate.proofs.Laws.{at_places}
+use mathlib.Core.List.{◌++◌, map}
+use lib.ListN.{take, drop, get_or}
 use Rattle.candidate.proofs.nearest.write_matches.Given as goal
 
 abbrev pub invariant-loop-i : goal.invariant-loop-i
-invariant-loop-i l = (l.i ≤ l.count) × (l.at ≡ l.i * l.seats) × (length l.sheet ≡ length l.initial.sheet) × (l.sheet ≡ overlaid (at_places l.waiting l.places l.at) l.initial.sheet)
-
-abbrev pub decreases-loop-i : goal.decreases-loop-i
-decreases-loop-i l = l.count - l.i
+invariant-loop-i l = l.sheet ≡ take l.i (map (λ p. get_or l.waiting p 0) l.places) ++ drop l.i l.initial.sheet

@@ -23,7 +23,7 @@ returns c =
     let a = c.args in
     let r = of_rules a.ids.now a.ratings.now a.parties.now a.roles.now a.regions.now in
     let n = c.args.objectives.len in
-    let e = c.best_choice.ensures.outcome
+    let e = c.best_choice.ensures
     ∙ ap (λ (q : Constraints). choice_rule (terms r q false c.objectives-softs.result n) a.sizes (queue_of a.queue)) c.constraints_of-all.ensures
     ∙ ap (λ (o : List SoftObjective). choice_rule (terms r (constraints_of a.constraints) false o n) a.sizes (queue_of a.queue)) c.objectives-softs.ensures in
     rw (sym c.has_no_kind.ensures ∙ c.if-has_no_kind.false) (subst (λ (o : Outcome Selection). ChoiceNumbers o c.in_numbers.result) e c.in_numbers.ensures)

@@ -23,48 +23,57 @@ pub loop-i-init : goal.loop-i-init
 loop-i-init c =
     let s = c.args in
     let h = c.held-asked in
-    let w : length s.required.requirements ≡ 8 = search (unmapped, rules) in
     let k = held_fits s.required.count s.required.requirements h.ensures in
-    (omega arith, k, w, packed_start least_of s.required.requirements h.result k, packed_start at_most s.required.requirements h.result k)
+    (packed_start least_of s.required.requirements h.result k, packed_start at_most s.required.requirements h.result k)
 
 pub overflow_mul-least : goal.overflow_mul-least
 overflow_mul-least c =
     let s = c.args in
     let h = c.held-asked in
     let l = c.loop-i in
-    omega (arith, packed_fit least_of s.required.requirements h.result l.i l.invariant.1 l.invariant.0 l.invariant.3 (λ q. capped_low q.least) (omega arith) (omega arith))
+    let w : length s.required.requirements ≡ 8 = search (unmapped, rules) in
+    let k = held_fits s.required.count s.required.requirements h.ensures in
+    omega (arith, packed_fit least_of s.required.requirements h.result l.i k (omega arith) l.invariant.0 (λ q. capped_low q.least) (omega arith) (omega arith))
 
 pub overflow_add-least : goal.overflow_add-least
 overflow_add-least c =
     let s = c.args in
     let h = c.held-asked in
     let l = c.loop-i in
-    omega (arith, packed_room least_of s.required.requirements h.result l.i l.invariant.1 l.invariant.0 l.invariant.3 (λ q. capped_low q.least) (omega arith) _ (omega arith) c.cap.ensures)
+    let w : length s.required.requirements ≡ 8 = search (unmapped, rules) in
+    let k = held_fits s.required.count s.required.requirements h.ensures in
+    omega (arith, packed_room least_of s.required.requirements h.result l.i k (omega arith) l.invariant.0 (λ q. capped_low q.least) (omega arith) _ (omega arith) c.cap.ensures)
 
 pub overflow_mul-most : goal.overflow_mul-most
 overflow_mul-most c =
     let s = c.args in
     let h = c.held-asked in
     let l = c.loop-i in
-    omega (arith, packed_fit at_most s.required.requirements h.result l.i l.invariant.1 l.invariant.0 l.invariant.4 (λ q. most_low q.most) (omega arith) (omega arith))
+    let w : length s.required.requirements ≡ 8 = search (unmapped, rules) in
+    let k = held_fits s.required.count s.required.requirements h.ensures in
+    omega (arith, packed_fit at_most s.required.requirements h.result l.i k (omega arith) l.invariant.1 (λ q. most_low q.most) (omega arith) (omega arith))
 
 pub overflow_add-most : goal.overflow_add-most
 overflow_add-most c =
     let s = c.args in
     let h = c.held-asked in
     let l = c.loop-i in
-    omega (arith, packed_room at_most s.required.requirements h.result l.i l.invariant.1 l.invariant.0 l.invariant.4 (λ q. most_low q.most) (omega arith) _ (omega arith) c.cap_of.ensures)
+    let w : length s.required.requirements ≡ 8 = search (unmapped, rules) in
+    let k = held_fits s.required.count s.required.requirements h.ensures in
+    omega (arith, packed_room at_most s.required.requirements h.result l.i k (omega arith) l.invariant.1 (λ q. most_low q.most) (omega arith) _ (omega arith) c.cap_of.ensures)
 
 pub loop-i-preserved : goal.loop-i-preserved
 loop-i-preserved c =
     let s = c.args in
     let h = c.held-asked in
     let l = c.loop-i in
-    (omega arith, l.invariant.1, l.invariant.2, packed_on least_of s.required.requirements h.result l.i l.invariant.1 l.invariant.0 l.invariant.3 _ (omega arith) c.cap.ensures refl, packed_on at_most s.required.requirements h.result l.i l.invariant.1 l.invariant.0 l.invariant.4 _ (omega arith) c.cap_of.ensures refl)
+    let k = held_fits s.required.count s.required.requirements h.ensures in
+    (packed_on least_of s.required.requirements h.result l.i k (omega arith) l.invariant.0 _ (omega arith) c.cap.ensures refl, packed_on at_most s.required.requirements h.result l.i k (omega arith) l.invariant.1 _ (omega arith) c.cap_of.ensures refl)
 
 pub returns : goal.returns
 returns c =
     let s = c.args in
     let h = c.held-asked in
     let l = c.loop-i in
-    bounds_made (requirements_of s.required) h.ensures (packed_end least_of s.required.requirements h.result l.i l.invariant.1 l.invariant.0 l.invariant.3 s.required.count h.ensures (omega arith)) (packed_end at_most s.required.requirements h.result l.i l.invariant.1 l.invariant.0 l.invariant.4 s.required.count h.ensures (omega arith))
+    let k = held_fits s.required.count s.required.requirements h.ensures in
+    bounds_made (requirements_of s.required) h.ensures (packed_end least_of s.required.requirements h.result l.i k (omega arith) l.invariant.0 s.required.count h.ensures (omega arith)) (packed_end at_most s.required.requirements h.result l.i k (omega arith) l.invariant.1 s.required.count h.ensures (omega arith))

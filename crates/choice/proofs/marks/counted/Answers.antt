@@ -28,35 +28,40 @@ pub loop-i-init : goal.loop-i-init
 loop-i-init c =
     let s = c.args in
     let h = c.held-i in
-    let w : length s.required.requirements ≡ 8 = search (unmapped, rules) in
-    let k = held_fits s.required.count s.required.requirements h.ensures in
-    (omega arith, k, w, packed_start (ones s.role) s.required.requirements h.result k)
+    packed_start (ones s.role) s.required.requirements h.result (held_fits s.required.count s.required.requirements h.ensures)
 
 pub overflow_mul-out : goal.overflow_mul-out
 overflow_mul-out c =
     let s = c.args in
     let h = c.held-i in
     let l = c.loop-i in
-    omega (arith, packed_fit (ones s.role) s.required.requirements h.result l.i l.invariant.1 l.invariant.0 l.invariant.3 (ones_digit s.role) (omega arith) (omega arith))
+    let w : length s.required.requirements ≡ 8 = search (unmapped, rules) in
+    let k = held_fits s.required.count s.required.requirements h.ensures in
+    omega (arith, packed_fit (ones s.role) s.required.requirements h.result l.i k (omega arith) l.invariant (ones_digit s.role) (omega arith) (omega arith))
 
 pub overflow_add-out : goal.overflow_add-out
 overflow_add-out c =
     let s = c.args in
     let h = c.held-i in
     let l = c.loop-i in
-    omega (arith, packed_room (ones s.role) s.required.requirements h.result l.i l.invariant.1 l.invariant.0 l.invariant.3 (ones_digit s.role) (omega arith) _ (omega arith) c.one_if.ensures)
+    let w : length s.required.requirements ≡ 8 = search (unmapped, rules) in
+    let k = held_fits s.required.count s.required.requirements h.ensures in
+    omega (arith, packed_room (ones s.role) s.required.requirements h.result l.i k (omega arith) l.invariant (ones_digit s.role) (omega arith) _ (omega arith) c.one_if.ensures)
 
 pub loop-i-preserved : goal.loop-i-preserved
 loop-i-preserved c =
     let s = c.args in
     let h = c.held-i in
     let l = c.loop-i in
-    (omega arith, l.invariant.1, l.invariant.2, packed_on (ones s.role) s.required.requirements h.result l.i l.invariant.1 l.invariant.0 l.invariant.3 _ (omega arith) c.one_if.ensures refl)
+    let k = held_fits s.required.count s.required.requirements h.ensures in
+    packed_on (ones s.role) s.required.requirements h.result l.i k (omega arith) l.invariant _ (omega arith) c.one_if.ensures refl
 
 pub returns : goal.returns
 returns c =
     let s = c.args in
     let h = c.held-i in
     let l = c.loop-i in
-    let e = packed_end (ones s.role) s.required.requirements h.result l.i l.invariant.1 l.invariant.0 l.invariant.3 s.required.count h.ensures (omega arith) in
-    (e, rw (sym e) at (packed_ones (ones s.role) (ones_low s.role) (take s.required.count s.required.requirements) (omega (arith, h.ensures, l.invariant))))
+    let w : length s.required.requirements ≡ 8 = search (unmapped, rules) in
+    let k = held_fits s.required.count s.required.requirements h.ensures in
+    let e = packed_end (ones s.role) s.required.requirements h.result l.i k (omega arith) l.invariant s.required.count h.ensures (omega arith) in
+    (e, rw (sym e) at (packed_ones (ones s.role) (ones_low s.role) (take s.required.count s.required.requirements) (omega (arith, h.ensures, k))))

@@ -6,23 +6,18 @@ use Rattle.constraint.specs.Constraints.{above_zero}
 use Rattle.base.proofs.Loops.{every_append}
 use Rattle.constraint.proofs.latency.holds.Goals as goal
 
-pub returns-then-not-is_team_above_zero : goal.returns-then-not-is_team_above_zero
-returns-then-not-is_team_above_zero c =
+pub returns-then-is_team_above_zero : goal.returns-then-is_team_above_zero
+returns-then-is_team_above_zero c =
     let a = c.args in
     let m = match_of a.proposed in
     let r = of_ratings a.ids.now a.ratings.now in
-    rw (
-      every_append (λ player. above_zero (rating_of r player)) m.a.players m.b.players,
-      sym c.is_team_above_zero.ensures ∙ c.if-not-is_team_above_zero.true,
-    )
+    rw (every_append (λ player. above_zero (rating_of r player)) m.a.players m.b.players, sym c.is_team_above_zero.ensures ∙ c.if-is_team_above_zero.true)
+    c.is_team_above_zero-then-is_team_above_zero.ensures
 
-pub returns : goal.returns
-returns c =
+pub returns-else-is_team_above_zero : goal.returns-else-is_team_above_zero
+returns-else-is_team_above_zero c =
     let a = c.args in
     let m = match_of a.proposed in
     let r = of_ratings a.ids.now a.ratings.now in
-    rw (
-      every_append (λ player. above_zero (rating_of r player)) m.a.players m.b.players,
-      sym c.is_team_above_zero.ensures ∙ c.if-not-is_team_above_zero.false,
-    )
-    c.is_team_above_zero-2.ensures
+    rw (every_append (λ player. above_zero (rating_of r player)) m.a.players m.b.players, sym c.is_team_above_zero.ensures ∙ c.if-is_team_above_zero.false)
+    c.if-is_team_above_zero.false

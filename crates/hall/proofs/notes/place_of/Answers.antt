@@ -1,25 +1,22 @@
--- A search: what is done and the place in the rest make the place in the whole.
-use borrow.Author.Rules.{rules}
-use native.Mathlib.Omega.{arith}
-use borrow.Author.Tests.{eq-eqb, ne_eqb}
-use Rattle.hall.proofs.KeyLaws.{key_hit, key_on, key_end_column, key_end}
+-- A search among the first keys of the column.
+use mathlib.Core.Path.{◌≡◌, refl, ap, ◌∙◌}
+use Prim.Native.Nat.{ℕ}
+use mathlib.Core.Bool.{Bool}
+use Rattle.std.proofs.Common.{rules}
+use borrow.Author.Tests.{tests}
+use lib.Dec.{eqb}
+use lib.ListN.{length, take}
+use Rattle.std.proofs.lemmas.Iterator.{YieldsList-from_slice}
+use Rattle.base.specs.Lists.{place}
+use Rattle.base.proofs.Arrays.{take_held}
+use Rattle.base.proofs.Chains.{place_ran}
 use Rattle.hall.proofs.notes.place_of.Goals as goal
-
-pub loop-i-init : goal.loop-i-init
-loop-i-init c = (omega arith, search rules)
-
-pub returns-then-keys-i : goal.returns-then-keys-i
-returns-then-keys-i c =
-    key_end_column _ c.args.keys.now c.args.n c.loop-i.i c.loop-i.invariant.1 c.if-keys-i.true
-
-pub returns-then-keys-i-2 : goal.returns-then-keys-i-2
-returns-then-keys-i-2 c =
-    key_hit _ c.args.keys.now c.args.n c.loop-i.i c.loop-i.invariant.1 c.loop-i-test.true c.if-keys-i.false (eq-eqb _ _ c.if-keys-i-2.true)
-
-pub loop-i-preserved : goal.loop-i-preserved
-loop-i-preserved c =
-    (omega (arith, c.if-keys-i.false), key_on _ c.args.keys.now c.args.n c.loop-i.i c.loop-i.invariant.1 c.loop-i-test.true c.if-keys-i.false (ne_eqb _ _ c.if-keys-i-2.false))
 
 pub returns : goal.returns
 returns c =
-    key_end _ c.args.keys.now c.args.n c.loop-i.i c.loop-i.invariant.1 c.loop-i-test.false
+    let s = c.args in
+    let is : ℕ → Bool = λ x. eqb x s.key in
+    let same : take c.at_most.result s.keys.now ≡ take s.n s.keys.now = ap (λ (m : ℕ). take m s.keys.now) c.at_most.ensures ∙ take_held s.keys.now s.n (length s.keys.now) refl in
+    c.unwrap_or.ensures
+    ∙ place_ran is _ c.position.ensures.ran (YieldsList-from_slice (take c.at_most.result s.keys.now) cc) (λ x b q k. search (rules, tests))
+    ∙ ap (place is) same

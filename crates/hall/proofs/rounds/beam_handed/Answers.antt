@@ -19,7 +19,7 @@ overflow_add-seats c =
     let long = places in
     let r = of_deviations a.ids.now a.ratings.now a.deviations.now in
     let sheets : Sheets = record { players = a.players.now; qualities = a.qualities.now } in
-    omega (arith, beam_sizes (take a.n bs) (at_most bs a.n long) a.game _ c.eligible-queue.ensures a.sizes a.search.width a.objective r a.clock sheets c.clock_among.ensures _ c.search-formed.ensures _ c.in-Count.is)
+    omega (arith, beam_sizes (take a.n bs) (at_most bs a.n long) a.game _ c.eligible-queue.ensures a.sizes a.search.width a.objective r a.clock sheets c.clock_among.ensures _ c.search-formed.ensures _ c.in-Ok.is)
 
 pub overflow_mul-seats : goal.overflow_mul-seats
 overflow_mul-seats c =
@@ -32,25 +32,25 @@ overflow_mul-seats c =
     let sheets : Sheets = record { players = a.players.now; qualities = a.qualities.now } in
     let same : length c.search-formed.new.players ≡ length a.players.now = search rules in
     let room : length a.players.now < 18446744073709551616 = bounded in
-    let fits : c.in-Count.count * (a.sizes.a + a.sizes.b) ≤ length a.players.now = rw (← same) (beam_fits (take a.n bs) (at_most bs a.n long) a.game _ c.eligible-queue.ensures a.sizes a.search.width a.objective r a.clock sheets c.clock_among.ensures _ c.search-formed.ensures _ c.in-Count.is) in
+    let fits : c.in-Ok.count * (a.sizes.a + a.sizes.b) ≤ length a.players.now = rw (← same) (beam_fits (take a.n bs) (at_most bs a.n long) a.game _ c.eligible-queue.ensures a.sizes a.search.width a.objective r a.clock sheets c.clock_among.ensures _ c.search-formed.ensures _ c.in-Ok.is) in
     search rules
 
-pub returns-in-Refused : goal.returns-in-Refused
-returns-in-Refused c =
+pub returns-in-Err : goal.returns-in-Err
+returns-in-Err c =
     let places : length c.args.bookings ≡ 64 = search (unmapped, rules) in
     let a = c.args in
     let bs = c.args.bookings in
     let long = places in
     let r = of_deviations a.ids.now a.ratings.now a.deviations.now in
     let sheets : Sheets = record { players = a.players.now; qualities = a.qualities.now } in
-    beam_refused (take a.n bs) (at_most bs a.n long) a.game _ c.eligible-queue.ensures a.sizes a.search.width a.objective r a.clock sheets c.clock_among.ensures _ c.search-formed.ensures _ c.in-Refused.is c.refuses.ensures
+    beam_refused (take a.n bs) (at_most bs a.n long) a.game _ c.eligible-queue.ensures a.sizes a.search.width a.objective r a.clock sheets c.clock_among.ensures _ c.search-formed.ensures _ c.in-Err.is c.refuses.ensures
 
-pub returns-in-Count : goal.returns-in-Count
-returns-in-Count c =
+pub returns-in-Ok : goal.returns-in-Ok
+returns-in-Ok c =
     let places : length c.args.bookings ≡ 64 = search (unmapped, rules) in
     let a = c.args in
     let bs = c.args.bookings in
     let long = places in
     let r = of_deviations a.ids.now a.ratings.now a.deviations.now in
     let sheets : Sheets = record { players = a.players.now; qualities = a.qualities.now } in
-    beam_given (take a.n bs) (at_most bs a.n long) a.game _ c.eligible-queue.ensures a.sizes a.search.width a.objective r a.clock sheets c.clock_among.ensures _ c.search-formed.ensures _ c.in-Count.is
+    beam_given (take a.n bs) (at_most bs a.n long) a.game _ c.eligible-queue.ensures a.sizes a.search.width a.objective r a.clock sheets c.clock_among.ensures _ c.search-formed.ensures _ c.in-Ok.is

@@ -9,15 +9,15 @@ use Rattle.hall.proofs.WaitLaws.{at_most}
 use Rattle.hall.proofs.ChoiceRounds.{places_fit, full_refused, full_given}
 use Rattle.hall.proofs.rounds.full_handed.Goals as goal
 
-pub returns-in-Refused : goal.returns-in-Refused
-returns-in-Refused c =
+pub returns-in-Err : goal.returns-in-Err
+returns-in-Err c =
     let places : length c.args.bookings ≡ 64 = search (unmapped, rules) in
     let a = c.args in
     let r = of_rules a.ids.now a.ratings.now a.parties.now a.roles.now a.regions.now in
     let bs = c.args.bookings in
     let long = places in
     let sheets : Sheets = record { players = a.players.now; qualities = a.qualities.now } in
-    full_refused a.sizes a.constraints a.friends a.objectives a.count r a.clock sheets a.game (take a.n bs) (at_most bs a.n long) c.clock_among-at.ensures _ c.check_sheets_and_clock-checked.ensures _ c.in-Refused.is c.first_refusal.result c.first_refusal.ensures c.refuses.ensures
+    full_refused a.sizes a.constraints a.friends a.objectives a.count r a.clock sheets a.game (take a.n bs) (at_most bs a.n long) c.clock_among-at.ensures _ c.check_sheets_and_clock-checked.ensures _ c.in-Err.is c.first_refusal.result c.first_refusal.ensures c.refuses.ensures
 
 pub choice_handed-requires : goal.choice_handed-requires
 choice_handed-requires c =
@@ -32,4 +32,4 @@ returns c =
     let bs = c.args.bookings in
     let long = places in
     let sheets : Sheets = record { players = a.players.now; qualities = a.qualities.now } in
-    full_given a.sizes a.constraints a.friends a.objectives a.count r a.clock sheets a.game (take a.n bs) (at_most bs a.n long) c.clock_among-at.ensures _ c.check_sheets_and_clock-checked.ensures c.in_default.is c.eligible.ensures c.best_choice-choice.ensures.outcome c.choice_handed.ensures
+    full_given a.sizes a.constraints a.friends a.objectives a.count r a.clock sheets a.game (take a.n bs) (at_most bs a.n long) c.clock_among-at.ensures _ c.check_sheets_and_clock-checked.ensures c.in_default.is c.eligible.ensures c.best_choice-choice.ensures c.choice_handed.ensures

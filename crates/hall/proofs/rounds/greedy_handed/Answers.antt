@@ -13,15 +13,15 @@ use Rattle.hall.proofs.RoundLaws.{greedy_refused, greedy_clock, greedy_search_re
 use Rattle.hall.proofs.WaitLaws.{at_most}
 use Rattle.hall.proofs.rounds.greedy_handed.Goals as goal
 
-pub returns-in-Refused : goal.returns-in-Refused
-returns-in-Refused c =
+pub returns-in-Err : goal.returns-in-Err
+returns-in-Err c =
     let places : length c.args.bookings ≡ 64 = search (unmapped, rules) in
     let a = c.args in
     let bs = c.args.bookings in
     let long = places in
     let r = of_ratings a.ids.now a.ratings.now in
     let sheets : Sheets = record { players = a.players.now; qualities = a.qualities.now } in
-    greedy_refused (take a.n bs) (at_most bs a.n long) a.game _ c.eligible-queue.ensures a.sizes r a.clock sheets refl _ c.check.ensures _ c.in-Refused.is c.refuses.ensures
+    greedy_refused (take a.n bs) (at_most bs a.n long) a.game _ c.eligible-queue.ensures a.sizes r a.clock sheets refl _ c.check.ensures _ c.in-Err.is c.refuses.ensures
 
 pub returns-then-is_over : goal.returns-then-is_over
 returns-then-is_over c =
@@ -51,25 +51,25 @@ overflow_mul-seats c =
     let sheets : Sheets = record { players = a.players.now; qualities = a.qualities.now } in
     let same : length c.search-formed.new.players ≡ length a.players.now = search rules in
     let room : length a.players.now < 18446744073709551616 = bounded in
-    let fits : c.in-Count.count * (a.sizes.a + a.sizes.b) ≤ length a.players.now = rw (← same) (greedy_fits (take a.n bs) (at_most bs a.n long) a.game _ c.eligible-queue.ensures a.sizes r a.clock sheets c.clock_among.ensures _ c.check.ensures c.in_default.is _ c.search-formed.ensures _ c.in-Count.is) in
+    let fits : c.in-Ok.count * (a.sizes.a + a.sizes.b) ≤ length a.players.now = rw (← same) (greedy_fits (take a.n bs) (at_most bs a.n long) a.game _ c.eligible-queue.ensures a.sizes r a.clock sheets c.clock_among.ensures _ c.check.ensures c.in_default.is _ c.search-formed.ensures _ c.in-Ok.is) in
     search rules
 
-pub returns-in-Refused-formed : goal.returns-in-Refused-formed
-returns-in-Refused-formed c =
+pub returns-in-Err-formed : goal.returns-in-Err-formed
+returns-in-Err-formed c =
     let places : length c.args.bookings ≡ 64 = search (unmapped, rules) in
     let a = c.args in
     let bs = c.args.bookings in
     let long = places in
     let r = of_ratings a.ids.now a.ratings.now in
     let sheets : Sheets = record { players = a.players.now; qualities = a.qualities.now } in
-    greedy_search_refused (take a.n bs) (at_most bs a.n long) a.game _ c.eligible-queue.ensures a.sizes r a.clock sheets c.clock_among.ensures _ c.check.ensures c.in_default.is _ c.search-formed.ensures (sym c.is_over.ensures ∙ c.if-is_over.false) _ c.in-Refused-formed.is c.refuses-in-Refused-formed.ensures
+    greedy_search_refused (take a.n bs) (at_most bs a.n long) a.game _ c.eligible-queue.ensures a.sizes r a.clock sheets c.clock_among.ensures _ c.check.ensures c.in_default.is _ c.search-formed.ensures (sym c.is_over.ensures ∙ c.if-is_over.false) _ c.in-Err-formed.is c.refuses-in-Err-formed.ensures
 
-pub returns-in-Count : goal.returns-in-Count
-returns-in-Count c =
+pub returns-in-Ok : goal.returns-in-Ok
+returns-in-Ok c =
     let places : length c.args.bookings ≡ 64 = search (unmapped, rules) in
     let a = c.args in
     let bs = c.args.bookings in
     let long = places in
     let r = of_ratings a.ids.now a.ratings.now in
     let sheets : Sheets = record { players = a.players.now; qualities = a.qualities.now } in
-    greedy_given (take a.n bs) (at_most bs a.n long) a.game _ c.eligible-queue.ensures a.sizes r a.clock sheets c.clock_among.ensures _ c.check.ensures c.in_default.is _ c.search-formed.ensures _ c.in-Count.is (sym c.is_over.ensures ∙ c.if-is_over.false)
+    greedy_given (take a.n bs) (at_most bs a.n long) a.game _ c.eligible-queue.ensures a.sizes r a.clock sheets c.clock_among.ensures _ c.check.ensures c.in_default.is _ c.search-formed.ensures _ c.in-Ok.is (sym c.is_over.ensures ∙ c.if-is_over.false)

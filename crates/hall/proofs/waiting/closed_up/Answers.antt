@@ -1,23 +1,25 @@
--- A row moved up by one: what is written and what is left make the row without the one at `at`.
+-- A row moved up by one: what stands before the place, and behind it what is moved.
+use borrow.Author.Rules.{rules}
 use native.Mathlib.Omega.{arith}
-use mathlib.Core.Path.{◌≡◌}
-use Prim.Native.Nat.{◌-◌, ◌≤◌}
-use lib.ListN.{length-set}
-use lib.Seq.{take-take}
-use Rattle.base.proofs.Loops.{shift_on, shift_end}
-use Rattle.hall.proofs.WaitLaws.{no_booking}
+use mathlib.Core.Path.{◌≡◌, ap, ◌∙◌}
+use Prim.Native.Nat.{ℕ, ◌+◌, ◌-◌, ◌≤◌}
+use lib.ListN.{length, take, drop, length-drop}
+use lib.Seq.{take-take, take-paste}
+use Rattle.std.proofs.lemmas.List.{drop-take}
+use Rattle.base.proofs.Arrays.{unmapped}
 use Rattle.hall.proofs.waiting.closed_up.Goals as goal
-
-pub loop-k-init : goal.loop-k-init
-loop-k-init c =
-    let l : c.args.at ≤ c.args.n = omega arith in
-    (omega arith, omega arith, omega arith, rw (take-take c.args.at c.args.n c.args.bookings l))
-
-pub loop-k-preserved : goal.loop-k-preserved
-loop-k-preserved c =
-    (omega arith, omega arith, simp length-set c.loop-k.invariant.2, shift_on c.args.bookings c.args.n c.loop-k.out _ c.loop-k.k no_booking (omega arith) (omega arith) (omega arith) c.loop-k.invariant.3)
 
 pub returns : goal.returns
 returns c =
-    let z : c.args.n - 1 ≡ c.loop-k.k = omega arith in
-    rw z (shift_end c.args.bookings c.args.n c.loop-k.out _ c.loop-k.k no_booking (omega arith) (omega arith) c.loop-k.invariant.3)
+    let a = c.args in
+    let bs = a.bookings in
+    let w : length bs ≡ 64 = search (unmapped, rules) in
+    let m = a.n - (a.at + 1) in
+    let before : a.at ≤ a.n = omega (arith, c.requires) in
+    let z : a.n - 1 ≡ a.at + m = omega (arith, c.requires) in
+    let y : a.n ≡ a.at + 1 + m = omega (arith, c.requires) in
+    let moved : drop (a.at + 1) (take a.n bs) ≡ take m (drop (a.at + 1) bs) = ap (λ (k : ℕ). drop (a.at + 1) (take k bs)) y ∙ drop-take (a.at + 1) m bs in
+    ap (λ (k : ℕ). take k c.copy_within.new.self) z
+    ∙ ap (take (a.at + m)) c.copy_within.ensures.after
+    ∙ take-paste bs a.at (drop (a.at + 1) bs) m (omega (arith, c.requires, w)) (omega (arith, c.requires, w, length-drop (a.at + 1) bs))
+    ∙ rw (take-take a.at a.n bs before, moved)

@@ -1,41 +1,26 @@
--- A count: those counted so far, and the rest gives what is missing.
-use borrow.Author.Rules.{rules}
-use borrow.Author.Tests.{eq-eqb, ne_eqb}
-use native.Mathlib.Omega.{arith}
-use mathlib.Core.Path.{◌≡◌}
+-- A count of those whom the test keeps.
+use mathlib.Core.Path.{◌≡◌, ap, ◌∙◌}
+use mathlib.Core.Bool.{Bool}
+use mathlib.Core.List.{List}
+use Rattle.std.proofs.Common.{rules}
+use borrow.Author.Tests.{tests}
 use lib.Dec.{eqb}
-use lib.ListN.{length}
+use lib.ListN.{length, take}
+use Rattle.std.proofs.lemmas.Iterator.{YieldsList-from_slice}
+use Rattle.std.proofs.lemmas.Iterator.Consumers.{YieldsList-from_filter, count_from_yields_List}
 use Rattle.base.proofs.Arrays.{unmapped}
-use Rattle.base.proofs.Loops.{count_on_of, count_skip_of}
-use Rattle.hall.proofs.WaitLaws.{no_booking, counted}
+use Rattle.base.proofs.Chains.{keep_of_list}
+use Rattle.hall.specs.declared.Booking.{Booking}
+use Rattle.hall.specs.Games.{eligible}
+use Rattle.hall.proofs.WaitLaws.{alike}
 use Rattle.hall.proofs.waiting.count.Goals as goal
-
-pub loop-i-init : goal.loop-i-init
-loop-i-init c = (omega arith, omega arith, omega arith)
-
-pub loop-i-preserved-then-booking-game : goal.loop-i-preserved-then-booking-game
-loop-i-preserved-then-booking-game c =
-    let s = c.args in
-    let l = c.loop-i in
-    let w : length s.bookings ≡ 64 = search (unmapped, rules) in (
-      omega arith,
-      omega arith,
-      count_on_of (λ b. eqb b.game s.game) s.bookings c.at_most-k.result l.m l.i no_booking (omega arith) l.invariant.2 (omega arith) (eq-eqb _ _ c.if-booking-game.true),
-    )
-
-pub loop-i-preserved : goal.loop-i-preserved
-loop-i-preserved c =
-    let s = c.args in
-    let l = c.loop-i in
-    let w : length s.bookings ≡ 64 = search (unmapped, rules) in (
-      omega arith,
-      omega arith,
-      count_skip_of (λ b. eqb b.game s.game) s.bookings c.at_most-k.result l.m l.i no_booking (omega arith) l.invariant.2 (omega arith) (ne_eqb _ _ c.if-booking-game.false),
-    )
 
 pub returns : goal.returns
 returns c =
     let s = c.args in
-    let l = c.loop-i in
     let w : length s.bookings ≡ 64 = search (unmapped, rules) in
-    counted s.bookings s.n _ w c.at_most-k.ensures (λ b. eqb b.game s.game) l.m l.i (omega arith) (omega arith) l.invariant.2
+    let row = take c.at_most-k.result s.bookings in
+    let own : Booking → Bool = λ b. eqb b.game s.game in
+    count_from_yields_List c.filter.result _ c.count.ensures.ran (YieldsList-from_filter _ own (YieldsList-from_slice row cc) c.filter.ensures.closure (λ x r q k. search (rules, tests)))
+    ∙ ap length (keep_of_list own row)
+    ∙ ap (λ (bs : List Booking). length (eligible s.game bs)) (alike s.bookings s.n _ w c.at_most-k.ensures)

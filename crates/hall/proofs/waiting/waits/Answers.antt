@@ -1,14 +1,10 @@
 -- The player waits where the place of the first booking is not past the end.
 use borrow.Author.Rules.{rules}
-use native.Mathlib.Omega.{arith}
 use mathlib.Core.Path.{◌≡◌}
 use lib.ListN.{length}
 use Rattle.base.proofs.Arrays.{unmapped}
 use Rattle.hall.proofs.WaitLaws.{waits_by}
 use Rattle.hall.proofs.waiting.waits.Goals as goal
-
-pub place_of-requires : goal.place_of-requires
-place_of-requires c = omega (arith, c.at_most-k.ensures)
 
 pub returns : goal.returns
 returns c =

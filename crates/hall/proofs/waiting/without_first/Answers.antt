@@ -7,9 +7,6 @@ use Rattle.base.proofs.Arrays.{unmapped}
 use Rattle.hall.proofs.WaitLaws.{stay_all, stay_rest}
 use Rattle.hall.proofs.waiting.without_first.Goals as goal
 
-pub place_of-at-requires : goal.place_of-at-requires
-place_of-at-requires c = omega (arith, c.at_most-k.ensures)
-
 pub returns-then-k-at : goal.returns-then-k-at
 returns-then-k-at c =
     let a = c.args in

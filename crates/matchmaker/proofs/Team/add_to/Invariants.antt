@@ -1,5 +1,5 @@
 -- `Team::add_to` meets its contract: the sum so far with the rest of the players makes the whole sum.
-use Rattle.std.proofs.Common.{◌≡◌, ℕ, ◌-◌, ◌≤◌, List, take, drop}
+use Rattle.std.proofs.Common.{◌≡◌, ℕ, List, drop}
 use mathlib.Core.List.{foldl}
 use lib.Ieee.{Float, binary64, add}
 use Rattle.roster.specs.Roster.{observe}
@@ -10,8 +10,5 @@ use Rattle.matchmaker.proofs.Team.add_to.Given as goal
 abbrev step : List ℕ → List Float → Float → ℕ → Float
 step ids column sum player = absorb (add binary64) sum (observe ids column player)
 
-abbrev pub invariant-loop-i : goal.invariant-loop-i
-invariant-loop-i l = (l.n ≤ 8) × (l.i ≤ l.n) × (foldl (step l.ids l.column) l.total (drop l.i (take l.n l.players)) ≡ foldl (step l.ids l.column) l.sum (take l.n l.players))
-
-abbrev pub decreases-loop-i : goal.decreases-loop-i
-decreases-loop-i l = l.n - l.i
+abbrev pub invariant-loop-player : goal.invariant-loop-player
+invariant-loop-player l = foldl (step l.ids l.column) l.total (drop l.player-index l.player-items) ≡ foldl (step l.ids l.column) l.sum l.player-items

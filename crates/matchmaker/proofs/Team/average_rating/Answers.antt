@@ -2,4 +2,4 @@
 use Rattle.matchmaker.proofs.Team.average_rating.Goals as goal
 
 pub returns : goal.returns
-returns c = rw (c.average.ensures, c.add_to.ensures, c.held-n.ensures)
+returns c = rw (c.average.ensures, c.add_to.ensures, c.held.ensures)

@@ -1,6 +1,6 @@
 -- `score::longest_wait` meets its contract: the longest so far with the rest of the players makes the longest of all.
 use Prim.Native.Nat.{ℕ}
-use mathlib.Core.Path.{refl, sym, ◌∙◌}
+use mathlib.Core.Path.{sym, ◌∙◌}
 use mathlib.Core.List.{List}
 use native.Mathlib.Omega.{arith}
 use lib.Ieee.{Float}
@@ -16,19 +16,16 @@ use Rattle.objective.proofs.score.longest_wait.Goals as goal
 abbrev step : List ℕ → List ℕ → ℕ → Float → ℕ → Float
 step waiting joined clock longest player = absorb longer longest (column_wait clock waiting joined player)
 
-pub loop-i-init : goal.loop-i-init
-loop-i-init c = (omega arith, refl)
-
-pub loop-i-preserved : goal.loop-i-preserved
-loop-i-preserved c =
+pub loop-player-preserved : goal.loop-player-preserved
+loop-player-preserved c =
     let a = c.args in
-    let l = c.loop-i in
-    (omega arith, fold_on (step a.waiting.now a.joined.now a.clock) 0 a.players.now l.i (omega arith) c.add_wait-longest.ensures ∙ l.invariant.1)
+    let l = c.loop-player in
+    fold_on (step a.waiting.now a.joined.now a.clock) 0 a.players.now l.player-index (omega arith) c.add_wait-longest.ensures ∙ l.invariant
 
 pub returns : goal.returns
 returns c =
     let a = c.args in
-    let l = c.loop-i in
-    sym (fold_end (step a.waiting.now a.joined.now a.clock) 0 a.players.now l.i l.longest (omega arith))
-    ∙ l.invariant.1
+    let l = c.loop-player in
+    sym (fold_end (step a.waiting.now a.joined.now a.clock) 0 a.players.now l.player-index l.longest (omega arith))
+    ∙ l.invariant
     ∙ fold_observations longer (column_wait a.clock a.waiting.now a.joined.now) zero a.players.now

@@ -11,4 +11,4 @@ returns c =
     let a = c.args in
     c.latency_at.ensures
     ∙ ap latency_at c.average.ensures
-    ∙ latency_known (of_ratings a.ids.now a.ratings.now) (match_of a.proposed) c.add_to.ensures c.add_to-sum.ensures c.seats.ensures
+    ∙ latency_known (of_ratings a.ids.now a.ratings.now) (match_of a.proposed) c.add_to-of_a.ensures c.add_to-sum.ensures c.seats.ensures

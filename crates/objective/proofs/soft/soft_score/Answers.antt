@@ -1,4 +1,7 @@
--- `soft::soft_score` meets its contract: one law for each of its returns.
+-- One law for each of its returns.
+use Rattle.std.specs.Prelude.{Err}
+use Rattle.base.specs.Refusals.{outcome_of}
+use Rattle.std.proofs.Common.{◌≡◌, ap, rules}
 use mathlib.Core.Path.{sym, ◌∙◌}
 use borrow.Author.Tests.{lt-ltb, le-ltb}
 use Rattle.roster.specs.Roster.{of_ratings}
@@ -16,14 +19,15 @@ returns-then-count-gt8 c =
     let a = c.args in
     soft_long (of_ratings a.ids.now a.ratings.now) (match_of a.proposed) a.objectives a.count (sym c.is_overfull.ensures ∙ c.if-is_overfull.false) (lt-ltb _ _ c.if-count-gt8.true)
 
-pub returns-in-Refused : goal.returns-in-Refused
-returns-in-Refused c =
+pub returns-in_err-check_ratings : goal.returns-in_err-check_ratings
+returns-in_err-check_ratings c =
     let a = c.args in
-    soft_roster (of_ratings a.ids.now a.ratings.now) (match_of a.proposed) a.objectives a.count
-    (sym c.is_overfull.ensures ∙ c.if-is_overfull.false) (le-ltb _ _ c.if-count-gt8.false) _ c.check_ratings.ensures c.in-Refused.is
+    let x : c.from_residual.result ≡ Err c.in_err-check_ratings.field-0.0 = search rules in
+    ap outcome_of x ∙ soft_roster (of_ratings a.ids.now a.ratings.now) (match_of a.proposed) a.objectives a.count
+    (sym c.is_overfull.ensures ∙ c.if-is_overfull.false) (le-ltb _ _ c.if-count-gt8.false) _ c.check_ratings.ensures c.in_err-check_ratings.was
 
 pub returns : goal.returns
 returns c =
     let a = c.args in
     soft_given (of_ratings a.ids.now a.ratings.now) (match_of a.proposed) a.objectives a.count
-    (sym c.is_overfull.ensures ∙ c.if-is_overfull.false) (le-ltb _ _ c.if-count-gt8.false) _ c.check_ratings.ensures c.in_default.is c.rated_soft_score.ensures
+    (sym c.is_overfull.ensures ∙ c.if-is_overfull.false) (le-ltb _ _ c.if-count-gt8.false) _ c.check_ratings.ensures c.in_ok-check_ratings.was c.rated_soft_score.ensures

@@ -1,31 +1,16 @@
--- Two arrays filled: what is written are the players and the joined times of the first entries.
-use Rattle.std.proofs.Common.{◌≡◌, length, refl, arith, length-set, rules}
-use Rattle.base.proofs.Arrays.{fill_on, filled, unmapped}
+-- The library's `map`, twice.
+use Rattle.std.proofs.Common.{◌≡◌, length, rules}
+use borrow.Author.Tests.{tests}
+use Rattle.base.proofs.Arrays.{unmapped}
+use Rattle.base.proofs.Chains.{mapped}
 use Rattle.queue.specs.Columns.{no_entry}
 use Rattle.queue.specs.declared.QueueEntry.{QueueEntry}
 use Rattle.queue.proofs.Queue.columns.Goals as goal
 
-pub loop-k-init : goal.loop-k-init
-loop-k-init c = (omega arith, search rules, search rules, refl, refl)
-
-pub loop-k-preserved : goal.loop-k-preserved
-loop-k-preserved c =
-    let es = c.args.self.entries in
-    let w : length es ≡ 64 = search (unmapped, rules) in
-    let l = c.loop-k in (
-      omega arith,
-      simp length-set l.invariant.1,
-      simp length-set l.invariant.2,
-      fill_on (λ (e : QueueEntry). e.player) es l.columns.players l.k no_entry (omega arith) (omega arith) l.invariant.3 refl,
-      fill_on (λ (e : QueueEntry). e.joined) es l.columns.joined l.k no_entry (omega arith) (omega arith) l.invariant.4 refl,
-    )
-
 pub returns : goal.returns
 returns c =
     let es = c.args.self.entries in
-    let w : length es ≡ 64 = search (unmapped, rules) in
-    let l = c.loop-k in
-    let e : l.k ≡ 64 = omega arith in
-    let who = filled (λ (e : QueueEntry). e.player) es l.columns.players 64 w l.invariant.1 (rw e at l.invariant.3) in
-    let since = filled (λ (e : QueueEntry). e.joined) es l.columns.joined 64 w l.invariant.2 (rw e at l.invariant.4) in
+    let f : length es ≡ 64 = search (unmapped, rules) in
+    let who = mapped (λ (e : QueueEntry). e.player) no_entry es f c.map.ensures.items (λ x y p q k. search (rules, tests)) in
+    let since = mapped (λ (e : QueueEntry). e.joined) no_entry es f c.map-2.ensures.items (λ x y p q k. search (rules, tests)) in
     λ j. record { players = who j; joined = since j }

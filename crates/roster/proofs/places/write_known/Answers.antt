@@ -1,32 +1,21 @@
--- `roster::places::write_known` meets its contract. A copy from the front: what is found of so many players, and the sheet beyond.
-use Prim.Native.Nat.{ℕ, min}
-use mathlib.Core.Path.{◌≡◌, refl, ap, ◌∙◌}
-use Rattle.base.specs.Lists.{is_some}
-use Rattle.base.proofs.Sheets.{written_on, written_end}
+-- A copy from the front: what is found of so many players, and the sheet beyond.
+use Rattle.std.specs.Prelude.{Option, Float}
+use Prim.Native.Nat.{ℕ}
+use mathlib.Core.Path.{ap, ◌∙◌}
 use native.Mathlib.Omega.{arith}
-use lib.ListN.{length, length-set}
+use Rattle.base.proofs.Sheets.{written_on, written_end}
+use Rattle.std.specs.Prelude.{is_some}
 use Rattle.roster.specs.Roster.{observe}
 use Rattle.roster.proofs.places.write_known.Goals as goal
-
-pub loop-i-init : goal.loop-i-init
-loop-i-init c = (omega arith, omega arith, refl, refl)
-
-pub returns-then-known-i : goal.returns-then-known-i
-returns-then-known-i c =
-    let a = c.args in
-    let l = c.loop-i in
-    let e : l.i ≡ min (length a.players.now) (length a.known.now) = omega (arith, l.invariant.2) in
-    l.invariant.3 ∙ written_end (λ (p : ℕ). is_some (observe a.ids.now a.column.now p)) a.players.now a.known.now l.i e
 
 pub loop-i-preserved : goal.loop-i-preserved
 loop-i-preserved c =
     let a = c.args in
     let l = c.loop-i in
-    (omega arith, omega arith, simp length-set l.invariant.2, rw l.invariant.3 (written_on (λ (p : ℕ). is_some (observe a.ids.now a.column.now p)) a.players.now a.known.now l.i 0 (omega arith) (omega arith) (c.is_something.ensures ∙ ap (λ o. is_some o) c.observation-observed.ensures)))
+    rw l.invariant (written_on (λ (p : ℕ). is_some (observe a.ids.now a.column.now p)) a.players.now a.known.now l.i 0 (omega arith) (omega arith) (c.is_some.ensures ∙ ap (λ (o : Option Float). is_some o) c.observation.ensures))
 
 pub returns : goal.returns
 returns c =
     let a = c.args in
     let l = c.loop-i in
-    let e : l.i ≡ min (length a.players.now) (length a.known.now) = omega (arith, l.invariant.2) in
-    l.invariant.3 ∙ written_end (λ (p : ℕ). is_some (observe a.ids.now a.column.now p)) a.players.now a.known.now l.i e
+    l.invariant ∙ written_end (λ (p : ℕ). is_some (observe a.ids.now a.column.now p)) a.players.now a.known.now l.i (omega arith)

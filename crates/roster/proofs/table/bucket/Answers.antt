@@ -1,4 +1,4 @@
--- `roster::table::bucket` meets its contract: the remainder by 1,024 is one of so many.
+-- The remainder by 1,024 is one of so many.
 use mathlib.Core.Path.{refl}
 use native.Mathlib.Omega.{arith}
 use Rattle.roster.specs.Steps.{bucket_of}

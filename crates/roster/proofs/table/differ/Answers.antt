@@ -1,4 +1,4 @@
--- `roster::table::differ` meets its contract: the table begins with no rows.
+-- The table begins with no rows.
 use native.Mathlib.Omega.{arith}
 use Rattle.roster.proofs.Buckets.{none_noted}
 use Rattle.roster.proofs.table.differ.Goals as goal

@@ -1,4 +1,4 @@
--- `roster::table::find` meets its contract: the rows are written where all ids differ.
+-- The rows are written where all ids differ.
 use mathlib.Core.Path.{refl, sym, ◌∙◌}
 use native.Mathlib.Omega.{arith}
 use Rattle.roster.proofs.Buckets.{none_noted}

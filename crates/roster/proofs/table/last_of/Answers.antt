@@ -1,4 +1,4 @@
--- `roster::table::last_of` meets its contract: the last row that has the id is the last up to where the walk is.
+-- The last row that has the id is the last up to where the walk is.
 use Prim.Native.Nat.{◌-◌}
 use mathlib.Core.Path.{refl}
 use native.Mathlib.Omega.{arith}

@@ -1,4 +1,4 @@
--- `roster::table::note` meets its contract: the table has a row more.
+-- The table has a row more.
 use mathlib.Core.Path.{refl}
 use native.Mathlib.Omega.{arith}
 use Rattle.roster.proofs.Buckets.{row_noted, earlier_last}

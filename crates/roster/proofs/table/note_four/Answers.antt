@@ -1,4 +1,4 @@
--- `roster::table::note_four` meets its contract: four rows into empty buckets differ from all above, and others are looked at.
+-- Four rows into empty buckets differ from all above, and others are looked at.
 use Prim.Native.Nat.{◌+◌}
 use mathlib.Core.Path.{◌≡◌, sym}
 use native.Mathlib.Omega.{arith}

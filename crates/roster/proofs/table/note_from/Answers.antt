@@ -1,14 +1,10 @@
--- `roster::table::note_from` meets its contract: the rows gone by are in the table and differ.
+-- The rows gone by are in the table and differ.
 use mathlib.Core.Path.{◌≡◌}
 use native.Mathlib.Omega.{arith}
 use lib.ListN.{length, get_or}
 use Rattle.base.proofs.Cases.{never}
 use Rattle.roster.proofs.Buckets.{walk_noted, walk_finds, differ_on, differ_not, differ_no_more, differ_all}
-use borrow.Author.Rules.{rules}
 use Rattle.roster.proofs.table.note_from.Goals as goal
-
-pub loop-i-init : goal.loop-i-init
-loop-i-init c = (omega arith, search rules, search rules)
 
 pub last_of-requires : goal.last_of-requires
 last_of-requires c =
@@ -32,11 +28,11 @@ loop-i-preserved c =
     let a = c.args in
     let m = c.note-earlier.ensures in
     let k = walk_finds a.ids.now (get_or a.ids.now l.i 0) l.i m.value.0 c.last_of.ensures in
-    (omega arith, differ_on a.ids.now l.i (omega arith) l.invariant.1 (omega arith), m.noted_2)
+    (differ_on a.ids.now l.i (omega arith) l.invariant.0 (omega arith), m.noted_2)
 
 pub returns : goal.returns
 returns c =
     let l = c.loop-i in
     let a = c.args in
     let e : l.i ≡ length a.ids.now = omega arith in
-    record { value = differ_all a.ids.now l.i (omega arith) l.invariant.1; noted_2 = λ t. rw e at l.invariant.2 }
+    record { value = differ_all a.ids.now l.i (omega arith) l.invariant.0; noted_2 = λ t. rw e at l.invariant.1 }

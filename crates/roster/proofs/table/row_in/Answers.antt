@@ -1,4 +1,4 @@
--- `roster::table::row_in` meets its contract: the last row that has the player is the only one.
+-- The last row that has the player is the only one.
 use mathlib.Core.Path.{ap, ◌∙◌}
 use native.Mathlib.Omega.{arith}
 use Prim.Native.Nat.{ℕ}

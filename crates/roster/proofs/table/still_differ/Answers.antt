@@ -1,13 +1,9 @@
--- `roster::table::still_differ` meets its contract: the ids up to the row that is looked at differ.
+-- The ids up to the row that is looked at differ.
 use mathlib.Core.Path.{◌≡◌, sym, ◌∙◌}
 use native.Mathlib.Omega.{arith}
 use lib.ListN.{get_or}
 use Rattle.roster.proofs.Buckets.{walk_asks, walk_finds, differ_on, differ_not}
-use borrow.Author.Rules.{rules}
 use Rattle.roster.proofs.table.still_differ.Goals as goal
-
-pub loop-i-init : goal.loop-i-init
-loop-i-init c = (omega arith, search rules)
 
 pub last_of-requires : goal.last_of-requires
 last_of-requires c =
@@ -31,11 +27,10 @@ loop-i-preserved c =
     let a = c.args in
     let e = c.wide.ensures ∙ c.requires.before_len.1 l.i (omega arith) in
     let k = walk_finds a.ids.now (get_or a.ids.now l.i 0) l.i e c.last_of.ensures in
-    (omega arith, differ_on a.ids.now l.i (omega arith) l.invariant.1 (omega arith))
+    differ_on a.ids.now l.i (omega arith) l.invariant (omega arith)
 
 pub returns : goal.returns
 returns c =
     let l = c.loop-i in
-    let a = c.args in
-    let e : l.i ≡ a.to = omega arith in
-    sym (rw e at l.invariant.1)
+    let e : l.i ≡ c.args.to = omega arith in
+    sym (rw e at l.invariant)

@@ -1,5 +1,5 @@
 -- `Matches::rated` meets its contract. An array filled: what is written are the qualities of the first matches.
-use Prim.Native.Nat.{ℕ, ◌-◌, ◌≤◌}
+use Prim.Native.Nat.{ℕ}
 use mathlib.Core.Path.{◌≡◌}
 use mathlib.Core.List.{List, map}
 use lib.Ieee.{Float}
@@ -14,7 +14,4 @@ abbrev quality : List ℕ → List Float → ProposedMatch → Float
 quality ids ratings m = quality_of (of_ratings ids ratings) (match_of m).a.players (match_of m).b.players
 
 abbrev pub invariant-loop-i : goal.invariant-loop-i
-invariant-loop-i l = (l.n ≤ 64) × (l.i ≤ l.n) × (length l.out ≡ 64) × (take l.i l.out ≡ map (quality l.ids l.ratings) (take l.i l.items))
-
-abbrev pub decreases-loop-i : goal.decreases-loop-i
-decreases-loop-i l = l.n - l.i
+invariant-loop-i l = (length l.out ≡ 64) × (take l.i l.out ≡ map (quality l.ids l.ratings) (take l.i l.self.items))

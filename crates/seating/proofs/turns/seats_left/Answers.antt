@@ -9,8 +9,5 @@ overflow_add-result c =
     let s = c.args.sizes in
     search (min-le_right s.a 8, min-le_right s.b 8, rules)
 
-pub returns-then-a-gt0 : goal.returns-then-a-gt0
-returns-then-a-gt0 c = rw (← c.at_most-a.ensures, ← c.at_most-b.ensures)
-
 pub returns : goal.returns
-returns c = rw (← c.at_most-a.ensures, ← c.at_most-b.ensures) (omega arith)
+returns c = rw (← c.at_most-a.ensures, ← c.at_most-b.ensures) (omega (arith, c.saturating_sub.ensures))

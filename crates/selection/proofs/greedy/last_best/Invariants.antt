@@ -1,5 +1,5 @@
 -- The best so far and the rest of the scores make the best of all.
-use Prim.Native.Nat.{◌-◌, ◌≤◌, ◌<◌}
+use Prim.Native.Nat.{◌<◌}
 use mathlib.Core.Path.{◌≡◌}
 use lib.Ieee.{nan}
 use lib.ListN.{take, drop, get_or}
@@ -8,7 +8,4 @@ use Rattle.ranking.specs.Order.{ranked, ranked_score, numbered}
 use Rattle.selection.proofs.greedy.last_best.Given as goal
 
 abbrev pub invariant-loop-i : goal.invariant-loop-i
-invariant-loop-i l = (l.best < l.n) × (l.i ≤ l.n) × (last_best ranked_score (ranked l.best (get_or l.scores l.best nan)) (numbered l.i (drop l.i (take l.n l.scores))) ≡ last_best ranked_score (ranked 0 (get_or l.scores 0 nan)) (numbered 1 (drop 1 (take l.n l.scores))))
-
-abbrev pub decreases-loop-i : goal.decreases-loop-i
-decreases-loop-i l = l.n - l.i
+invariant-loop-i l = (l.best < l.n) × (last_best ranked_score (ranked l.best (get_or l.scores l.best nan)) (numbered l.i (drop l.i (take l.n l.scores))) ≡ last_best ranked_score (ranked 0 (get_or l.scores 0 nan)) (numbered 1 (drop 1 (take l.n l.scores))))

@@ -9,12 +9,12 @@ use Rattle.selection.specs.Selection.{candidates_of, stated, too_much, best_of}
 use Rattle.selection.proofs.Laws.{answer_refused, passed_fits, ranked_refused, ranked_given, best_none}
 use Rattle.selection.proofs.greedy.select.Goals as goal
 
-pub returns-in-Refused : goal.returns-in-Refused
-returns-in-Refused c =
+pub returns-in-Err : goal.returns-in-Err
+returns-in-Err c =
     let a = c.args in
     let r = of_ratings a.ids.now a.ratings.now in
     let t = too_much (candidates_of a.candidates a.n) a.count in
-    answer_refused t (ratings_check r) _ _ c.in-Refused.is c.check.ensures c.refuse.ensures
+    answer_refused t (ratings_check r) _ _ c.in-Err.is c.check.ensures c.refuse.ensures
 
 pub scores-scores-requires : goal.scores-scores-requires
 scores-scores-requires c =

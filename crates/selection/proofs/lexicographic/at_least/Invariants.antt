@@ -2,7 +2,7 @@
 use Rattle.selection.specs.declared.lexicographic.Candidate.{Candidate}
 use Rattle.objective.specs.declared.soft.SoftObjective.{SoftObjective}
 use mathlib.Core.Bool.{Bool}
-use Prim.Native.Nat.{◌-◌, ◌≤◌, ℕ}
+use Prim.Native.Nat.{◌≤◌, ℕ}
 use mathlib.Core.Path.{◌≡◌}
 use mathlib.Core.List.{◌++◌, List}
 use lib.Ieee.{le, Float}
@@ -18,7 +18,4 @@ abbrev reaches : Float → SoftObjective → List ℕ → List Float → Candida
 reaches bound objective ids ratings candidate = le bound (value_of (of_ratings ids ratings) objective (still_in_of candidate))
 
 abbrev pub invariant-loop-i : goal.invariant-loop-i
-invariant-loop-i l = (l.i ≤ l.n) × (l.k ≤ l.i) × (length l.out ≡ 64) × (take l.k l.out ++ keep (reaches l.bound l.objective l.ids l.ratings) (drop l.i (take l.n l.kept)) ≡ keep (reaches l.bound l.objective l.ids l.ratings) (take l.n l.kept))
-
-abbrev pub decreases-loop-i : goal.decreases-loop-i
-decreases-loop-i l = l.n - l.i
+invariant-loop-i l = (l.k ≤ l.i) × (length l.out ≡ 64) × (take l.k l.out ++ keep (reaches l.bound l.objective l.ids l.ratings) (drop l.i (take l.fn.shortlist.len l.kept)) ≡ keep (reaches l.bound l.objective l.ids l.ratings) (take l.fn.shortlist.len l.kept))

@@ -6,8 +6,7 @@ use mathlib.Core.Path.{sym, ap, ◌∙◌}
 use mathlib.Core.List.{foldl, List, map-map}
 use native.Mathlib.Omega.{arith}
 use lib.Ieee.{Float}
-use lib.ListN.{take}
-use Rattle.base.proofs.Loops.{fold_on_of}
+use Rattle.base.proofs.Loops.{fold_on}
 use Rattle.roster.specs.Roster.{of_ratings}
 use Rattle.selection.specs.Selection.{max_of, highest_of, value_of}
 use Rattle.selection.specs.Steps.{still_in_of}
@@ -18,19 +17,19 @@ use Rattle.selection.proofs.lexicographic.highest.Goals as goal
 abbrev step : SoftObjective → List ℕ → List Float → Float → Candidate → Float
 step objective ids ratings best candidate = max_of best (value_of (of_ratings ids ratings) objective (still_in_of candidate))
 
-pub loop-i-preserved : goal.loop-i-preserved
-loop-i-preserved c =
+pub loop-candidate-preserved : goal.loop-candidate-preserved
+loop-candidate-preserved c =
     let s = c.args in
-    let l = c.loop-i in
-    (omega arith, fold_on_of (step s.objective s.ids.now s.ratings.now) _ s.kept s.n l.i (omega arith) (omega arith) (c.max-best.ensures ∙ ap (max_of l.best) c.value.ensures) ∙ l.invariant.1)
+    let l = c.loop-candidate in
+    fold_on (step s.objective s.ids.now s.ratings.now) _ s.kept.now l.candidate-index (omega arith) (c.max-best.ensures ∙ ap (max_of l.best) c.value.ensures) ∙ l.invariant
 
 pub returns : goal.returns
 returns c =
     let s = c.args in
-    let l = c.loop-i in
+    let l = c.loop-candidate in
     let r = of_ratings s.ids.now s.ratings.now in
-    sym (fold_over (step s.objective s.ids.now s.ratings.now) s.kept s.n l.i (omega arith) l.best (omega arith) (omega arith))
-    ∙ l.invariant.1
-    ∙ ap (λ (b : Float). foldl (step s.objective s.ids.now s.ratings.now) b (take s.n s.kept)) lowest
-    ∙ fold_map (λ k. value_of r s.objective (still_in_of k)) max_of _ (take s.n s.kept)
-    ∙ ap highest_of (sym (map-map (value_of r s.objective) still_in_of (take s.n s.kept)))
+    sym (fold_over (step s.objective s.ids.now s.ratings.now) s.kept.now l.candidate-index l.best (omega arith))
+    ∙ l.invariant
+    ∙ ap (λ (b : Float). foldl (step s.objective s.ids.now s.ratings.now) b s.kept.now) lowest
+    ∙ fold_map (λ k. value_of r s.objective (still_in_of k)) max_of _ s.kept.now
+    ∙ ap highest_of (sym (map-map (value_of r s.objective) still_in_of s.kept.now))

@@ -12,11 +12,11 @@ pub loop-i-preserved : goal.loop-i-preserved
 loop-i-preserved c =
     let s = c.args in
     let l = c.loop-i in
-    (omega arith, simp length-set l.invariant.1, listed_on s.candidates s.n l.i (omega arith) l.kept l.invariant.2 _ (omega arith) (omega arith))
+    (simp length-set l.invariant.0, listed_on s.candidates s.n l.i (omega arith) l.kept l.invariant.1 _ (omega arith) (omega arith))
 
 pub returns : goal.returns
 returns c =
     let s = c.args in
     let l = c.loop-i in
     let e : s.n ≡ l.i = omega arith in
-    (ap (λ (k : ℕ). map still_in_of (take k l.kept)) e ∙ listed_end s.candidates s.n l.i (omega arith) l.kept l.invariant.2 (omega arith) (omega arith), omega arith)
+    (ap (λ (k : ℕ). map still_in_of (take k l.kept)) e ∙ listed_end s.candidates s.n l.i (omega arith) l.kept l.invariant.1 (omega arith) (omega arith), omega arith)

@@ -1,5 +1,4 @@
 -- What is listed and the rest of the candidates make the whole list.
-use Prim.Native.Nat.{◌-◌, ◌≤◌}
 use mathlib.Core.Path.{◌≡◌}
 use mathlib.Core.List.{◌++◌, map}
 use lib.ListN.{length, take, drop}
@@ -9,7 +8,4 @@ use Rattle.selection.specs.Steps.{still_in_of}
 use Rattle.selection.proofs.lexicographic.listed.Given as goal
 
 abbrev pub invariant-loop-i : goal.invariant-loop-i
-invariant-loop-i l = (l.i ≤ l.n) × (length l.kept ≡ 64) × (map still_in_of (take l.i l.kept) ++ placed l.i (map match_of (drop l.i (take l.n l.candidates))) ≡ placed 0 (map match_of (take l.n l.candidates)))
-
-abbrev pub decreases-loop-i : goal.decreases-loop-i
-decreases-loop-i l = l.n - l.i
+invariant-loop-i l = (length l.kept ≡ 64) × (map still_in_of (take l.i l.kept) ++ placed l.i (map match_of (drop l.i (take l.n l.candidates))) ≡ placed 0 (map match_of (take l.n l.candidates)))

@@ -20,7 +20,7 @@ returns-then-kept-eq1 c =
     let w : length k.candidates ≡ 64 = search (unmapped, rules) in
     let e = c.near_best-kept.ensures in
     let n : length (shortlist_of k) ≡ k.len = listed_length k.candidates k.len (omega arith) in
-    (narrow_stops (of_ratings s.ids.now s.ratings.now) s.objectives s.count l.i (omega arith) (shortlist_of l.kept) l.invariant.2 _ (omega arith) e.0 (eq-eqb _ 1 (n ∙ c.if-kept-eq1.true)), e.1)
+    (narrow_stops (of_ratings s.ids.now s.ratings.now) s.objectives s.count l.i (omega arith) (shortlist_of l.kept) l.invariant.1 _ (omega arith) e.0 (eq-eqb _ 1 (n ∙ c.if-kept-eq1.true)), e.1)
 
 pub loop-i-preserved : goal.loop-i-preserved
 loop-i-preserved c =
@@ -31,10 +31,10 @@ loop-i-preserved c =
     let e = c.near_best-kept.ensures in
     let n : length (shortlist_of k) ≡ k.len = listed_length k.candidates k.len (omega arith) in
     let t : eqb (length (shortlist_of k)) 1 ≡ false = rw n (ne_eqb k.len 1 c.if-kept-eq1.false) in
-    (omega arith, e.1, narrow_on (of_ratings s.ids.now s.ratings.now) s.objectives s.count l.i (omega arith) (shortlist_of l.kept) l.invariant.2 _ (omega arith) e.0 t)
+    (e.1, narrow_on (of_ratings s.ids.now s.ratings.now) s.objectives s.count l.i (omega arith) (shortlist_of l.kept) l.invariant.1 _ (omega arith) e.0 t)
 
 pub returns : goal.returns
 returns c =
     let s = c.args in
     let l = c.loop-i in
-    (narrow_end (of_ratings s.ids.now s.ratings.now) s.objectives s.count l.i (omega arith) (shortlist_of l.kept) l.invariant.2 (omega arith) (omega arith), l.invariant.1)
+    (narrow_end (of_ratings s.ids.now s.ratings.now) s.objectives s.count l.i (omega arith) (shortlist_of l.kept) l.invariant.1 (omega arith) (omega arith), l.invariant.0)

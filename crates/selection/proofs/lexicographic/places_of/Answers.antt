@@ -15,7 +15,7 @@ loop-i-preserved c =
     let o = c.args.shortlist in
     let l = c.loop-i in
     let w : length o.candidates ≡ 64 = search (unmapped, rules) in
-    (omega arith, simp length-set l.invariant.1, fill_on (λ x. x.place) o.candidates l.places l.i _ (omega arith) (omega arith) l.invariant.2 refl)
+    (simp length-set l.invariant.0, fill_on (λ x. x.place) o.candidates l.places l.i _ (omega arith) (omega arith) l.invariant.1 refl)
 
 pub returns : goal.returns
 returns c =
@@ -24,5 +24,5 @@ returns c =
     let w : length o.candidates ≡ 64 = search (unmapped, rules) in
     let e : o.len ≡ l.i = omega arith in
     counted (sym (length-map (map still_in_of (take o.len o.candidates)) (λ k. k.place) ∙ listed_length o.candidates o.len (omega arith)))
-    (ap (λ (k : ℕ). take k l.places) e ∙ l.invariant.2 ∙ ap (λ (k : ℕ). map (λ x. x.place) (take k o.candidates)) (sym e)
+    (ap (λ (k : ℕ). take k l.places) e ∙ l.invariant.1 ∙ ap (λ (k : ℕ). map (λ x. x.place) (take k o.candidates)) (sym e)
     ∙ sym (map-map (λ k. k.place) still_in_of (take o.len o.candidates)))

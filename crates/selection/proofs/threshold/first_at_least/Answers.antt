@@ -10,16 +10,16 @@ pub returns-then-minimum-scores : goal.returns-then-minimum-scores
 returns-then-minimum-scores c =
     let s = c.args in
     let l = c.loop-i in
-    c.just.ensures ∙ ap (λ ps. stated (gives ps)) (first_hit s.scores s.n l.i (omega arith) s.minimum l.invariant.1 (omega arith) c.if-minimum-scores.true)
+    c.just.ensures ∙ ap (λ ps. stated (gives ps)) (first_hit s.scores s.n l.i (omega arith) s.minimum l.invariant (omega arith) c.if-minimum-scores.true)
 
 pub loop-i-preserved : goal.loop-i-preserved
 loop-i-preserved c =
     let s = c.args in
     let l = c.loop-i in
-    (omega arith, first_on s.scores s.n l.i (omega arith) s.minimum l.invariant.1 (omega arith) c.if-minimum-scores.false)
+    first_on s.scores s.n l.i (omega arith) s.minimum l.invariant (omega arith) c.if-minimum-scores.false
 
 pub returns : goal.returns
 returns c =
     let s = c.args in
     let l = c.loop-i in
-    c.nobody.ensures ∙ ap (λ ps. stated (gives ps)) (first_none s.scores s.n l.i (omega arith) s.minimum l.invariant.1 (omega arith) (omega arith))
+    c.nobody.ensures ∙ ap (λ ps. stated (gives ps)) (first_none s.scores s.n l.i (omega arith) s.minimum l.invariant (omega arith) (omega arith))

@@ -12,7 +12,7 @@ loop-i-preserved c =
     let o = c.args.order in
     let l = c.loop-i in
     let w : length o.ranked ≡ 64 = search (unmapped, rules) in
-    (omega arith, simp length-set l.invariant.1, fill_on (λ x. x.place) o.ranked l.places l.i _ (omega arith) (omega arith) l.invariant.2 refl)
+    (simp length-set l.invariant.0, fill_on (λ x. x.place) o.ranked l.places l.i _ (omega arith) (omega arith) l.invariant.1 refl)
 
 pub returns : goal.returns
 returns c =
@@ -21,4 +21,4 @@ returns c =
     let w : length o.ranked ≡ 64 = search (unmapped, rules) in
     let e : l.i ≡ 64 = omega arith in
     counted (ap (λ s. s.size) c.requires ∙ sym (length-map (take o.len o.ranked) (λ x. x.place)))
-    (ap (take o.len) (filled (λ x. x.place) o.ranked l.places l.i (omega arith) (omega arith) l.invariant.2) ∙ take_map (λ x. x.place) o.len o.ranked)
+    (ap (take o.len) (filled (λ x. x.place) o.ranked l.places l.i (omega arith) (omega arith) l.invariant.1) ∙ take_map (λ x. x.place) o.len o.ranked)

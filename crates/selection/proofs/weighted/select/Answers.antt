@@ -10,12 +10,12 @@ use Rattle.selection.specs.Selection.{candidates_of, stated, too_much, falling_p
 use Rattle.selection.proofs.Laws.{answer_refused, passed_fits, ranked_refused, ranked_given}
 use Rattle.selection.proofs.weighted.select.Goals as goal
 
-pub returns-in-Refused : goal.returns-in-Refused
-returns-in-Refused c =
+pub returns-in-Err : goal.returns-in-Err
+returns-in-Err c =
     let a = c.args in
     let r = of_ratings a.ids.now a.ratings.now in
     let t = too_much (candidates_of a.candidates a.n) 0 in
-    answer_refused t (ratings_check r) _ _ c.in-Refused.is c.check.ensures c.refuse.ensures
+    answer_refused t (ratings_check r) _ _ c.in-Err.is c.check.ensures c.refuse.ensures
 
 pub skill_scores-scores-requires : goal.skill_scores-scores-requires
 skill_scores-scores-requires c =

@@ -19,12 +19,12 @@ pub loop-i-preserved : goal.loop-i-preserved
 loop-i-preserved c =
     let s = c.args in
     let l = c.loop-i in
-    (omega arith, simp length-set l.invariant.1, fill_on (score s.weights.skill s.ids.now s.ratings.now) s.candidates l.out l.i _ (omega arith) (omega arith) l.invariant.2 (ap (mul binary64 s.weights.skill) c.rated_quality.ensures))
+    (simp length-set l.invariant.0, fill_on (score s.weights.skill s.ids.now s.ratings.now) s.candidates l.out l.i _ (omega arith) (omega arith) l.invariant.1 (ap (mul binary64 s.weights.skill) c.rated_quality.ensures))
 
 pub returns : goal.returns
 returns c =
     let s = c.args in
     let l = c.loop-i in
     let e : s.n ≡ l.i = omega arith in
-    ap (λ (k : ℕ). take k l.out) e ∙ l.invariant.2 ∙ ap (λ (k : ℕ). map (score s.weights.skill s.ids.now s.ratings.now) (take k s.candidates)) (sym e)
+    ap (λ (k : ℕ). take k l.out) e ∙ l.invariant.1 ∙ ap (λ (k : ℕ). map (score s.weights.skill s.ids.now s.ratings.now) (take k s.candidates)) (sym e)
     ∙ sym (map-map (λ m. mul binary64 s.weights.skill (quality_of (of_ratings s.ids.now s.ratings.now) m.a.players m.b.players)) match_of (take s.n s.candidates))

@@ -1,6 +1,6 @@
 -- An array filled: what is written are the scores of the first candidates.
 use Rattle.matchmaker.specs.declared.ProposedMatch.{ProposedMatch}
-use Prim.Native.Nat.{ℕ, ◌-◌, ◌≤◌}
+use Prim.Native.Nat.{ℕ}
 use mathlib.Core.Path.{◌≡◌}
 use mathlib.Core.List.{map, List}
 use lib.ListN.{length, take}
@@ -14,7 +14,4 @@ abbrev score : Float → List ℕ → List Float → ProposedMatch → Float
 score skill ids ratings candidate = mul binary64 skill (quality_of (of_ratings ids ratings) (match_of candidate).a.players (match_of candidate).b.players)
 
 abbrev pub invariant-loop-i : goal.invariant-loop-i
-invariant-loop-i l = (l.i ≤ l.n) × (length l.out ≡ 64) × (take l.i l.out ≡ map (score l.weights.skill l.ids l.ratings) (take l.i l.candidates))
-
-abbrev pub decreases-loop-i : goal.decreases-loop-i
-decreases-loop-i l = l.n - l.i
+invariant-loop-i l = (length l.out ≡ 64) × (take l.i l.out ≡ map (score l.weights.skill l.ids l.ratings) (take l.i l.candidates))

@@ -69,7 +69,7 @@ combinations-requires c =
     let s = c.args in
     let w : length s.queue.entries ≡ 64 = search (unmapped, rules, c.well_formed.0) in
     let z = sizes_in_lem s.sizes (sym c.is_over.ensures ∙ c.if-is_over.false) in
-    let l = ap length c.players-column.ensures ∙ length-map s.queue.entries _ ∙ w in
+    let l = ap length c.players-queued.ensures ∙ length-map s.queue.entries _ ∙ w in
     let e = ap (λ (m : MatchState). length (seated m)) c.nobody.ensures in
     let v = c.ways-many.ensures in
     let p = rw v at c.if-players-many.false in
@@ -86,4 +86,4 @@ returns c =
     let q = c.if-qualities-many.false in
     lists s.sizes (queue_of s.queue) (record { players = s.players.now; qualities = s.qualities.now }) (by_second (sizes_over s.sizes) (le-ltb 64 s.queue.len c.if-n-gt64.false) (sym c.is_over.ensures ∙ c.if-is_over.false)) (sym c.has_joined_over.ensures ∙ c.if-has_joined_over.false) (not_wide s.queue.entries s.queue.len f c.if-n-gt20.false)
     (not_short s.sizes s.queue.entries s.queue.len f s.players.now s.qualities.now v p q)
-    (walked s.sizes s.queue.entries s.queue.len f s.players.now s.qualities.now v p q (sizes_in_lem s.sizes (sym c.is_over.ensures ∙ c.if-is_over.false)) c.nobody.ensures c.players-column.ensures c.combinations.ensures)
+    (walked s.sizes s.queue.entries s.queue.len f s.players.now s.qualities.now v p q (sizes_in_lem s.sizes (sym c.is_over.ensures ∙ c.if-is_over.false)) c.nobody.ensures c.players-queued.ensures c.combinations.ensures)

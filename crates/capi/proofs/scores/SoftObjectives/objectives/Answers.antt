@@ -7,7 +7,7 @@ use borrow.Author.Rules.{rules}
 use Rattle.capi.proofs.scores.SoftObjectives.objectives.Goals as goal
 
 pub loop-i-init : goal.loop-i-init
-loop-i-init c = (omega arith, search rules, refl)
+loop-i-init c = (search rules, refl)
 
 pub loop-i-preserved : goal.loop-i-preserved
 loop-i-preserved c =
@@ -15,11 +15,11 @@ loop-i-preserved c =
     let l = c.loop-i in
     let k : length s.kinds ≡ 8 = search rules in
     let w : length s.weights ≡ 8 = search rules in
-    (omega arith, simp length-set l.invariant.1, softs_on s.kinds s.weights l.out l.i l.invariant.2 (omega arith) (omega arith) (omega arith) c.soft_of.ensures)
+    (simp length-set l.invariant.0, softs_on s.kinds s.weights l.out l.i l.invariant.1 (omega arith) (omega arith) (omega arith) c.soft_of.ensures)
 
 pub returns : goal.returns
 returns c =
     let s = c.args.self in
     let l = c.loop-i in
     let k : length s.kinds ≡ 8 = search rules in
-    softs_end s.kinds s.weights l.out l.i l.invariant.2 (omega arith) (omega arith)
+    softs_end s.kinds s.weights l.out l.i l.invariant.1 (omega arith) (omega arith)

@@ -1,5 +1,4 @@
 -- Each turn writes one objective behind those before it.
-use Prim.Native.Nat.{◌-◌, ◌≤◌}
 use mathlib.Core.Path.{◌≡◌}
 use mathlib.Core.List.{◌++◌}
 use lib.ListN.{length, take, drop}
@@ -7,7 +6,4 @@ use Rattle.capi.specs.Scores.{softs_of}
 use Rattle.capi.proofs.scores.SoftObjectives.objectives.Given as goal
 
 abbrev pub invariant-loop-i : goal.invariant-loop-i
-invariant-loop-i l = (l.i ≤ 8) × (length l.out ≡ 8) × (take l.i l.out ++ softs_of (drop l.i l.kinds) (drop l.i l.weights) ≡ softs_of l.kinds l.weights)
-
-abbrev pub decreases-loop-i : goal.decreases-loop-i
-decreases-loop-i l = 8 - l.i
+invariant-loop-i l = (length l.out ≡ 8) × (take l.i l.out ++ softs_of (drop l.i l.kinds) (drop l.i l.weights) ≡ softs_of l.kinds l.weights)

@@ -1,42 +1,23 @@
--- `RegionConstraint::check` meets its contract: the rest of the pairs decides what all of them decide.
-use mathlib.Core.Path.{◌≡◌, refl, sym, ap, ◌∙◌}
-use mathlib.Core.Bool.{not}
-use native.Mathlib.Omega.{arith}
-use lib.ListN.{length}
-use Rattle.base.proofs.Arrays.{unmapped}
-use Rattle.base.proofs.Arrays.{held_fits}
-use Rattle.base.proofs.Loops.{held_hit, held_on, held_end}
-use borrow.Author.Rules.{rules}
+-- `RegionConstraint::check` meets its contract: `all` over the pairs that are held.
+use mathlib.Core.Path.{sym, ap, ◌∙◌}
+use lib.ListN.{take}
+use Rattle.std.proofs.Common.{rules}
+use Rattle.std.proofs.lemmas.Iterator.{YieldsList-from_slice}
+use borrow.Author.Tests.{tests}
+use Rattle.base.specs.Lists.{every}
+use Rattle.base.proofs.Arrays.{all_held}
+use Rattle.base.proofs.Chains.{every_ran}
+use Rattle.constraint.specs.Refusing.{is_pair}
 use Rattle.constraint.proofs.regions.RegionConstraint.check.Goals as goal
 
-pub loop-i-init : goal.loop-i-init
-loop-i-init c =
+pub returns-then-all : goal.returns-then-all
+returns-then-all c =
     let t = c.args.self in
-    let w : length t.pairs ≡ 16 = search (unmapped, rules) in
-    (omega (arith, held_fits t.count t.pairs c.held-n.ensures), omega arith, refl)
+    rw (sym (every_ran is_pair _ c.all.ensures.ran (YieldsList-from_slice (take c.held.result t.pairs) cc) (λ x b q k. search (rules, tests))
+    ∙ ap (every is_pair) (all_held t.count t.pairs c.held.ensures)) ∙ c.if-all.true)
 
-pub returns-then-not-is_valid : goal.returns-then-not-is_valid
-returns-then-not-is_valid c =
+pub returns-else-all : goal.returns-else-all
+returns-else-all c =
     let t = c.args.self in
-    let l = c.loop-i in
-    let h = c.held-n in
-    rw (← held_hit _ _ _ t.pairs t.count h.result l.i h.ensures l.invariant.2 _ c.loop-i-test.true
-    (ap not (sym c.is_valid.ensures) ∙ c.if-not-is_valid.true-raw))
-
-pub loop-i-preserved : goal.loop-i-preserved
-loop-i-preserved c =
-    let t = c.args.self in
-    let l = c.loop-i in
-    let h = c.held-n in (
-      omega arith,
-      omega arith,
-      held_on _ _ _ t.pairs t.count h.result l.i h.ensures l.invariant.2 _ c.loop-i-test.true
-          (ap not (sym c.is_valid.ensures) ∙ c.if-not-is_valid.false-raw),
-    )
-
-pub returns : goal.returns
-returns c =
-    let t = c.args.self in
-    let l = c.loop-i in
-    let h = c.held-n in
-    rw (← held_end _ _ _ t.pairs t.count h.result l.i h.ensures l.invariant.2 (omega arith) (omega arith))
+    rw (sym (every_ran is_pair _ c.all.ensures.ran (YieldsList-from_slice (take c.held.result t.pairs) cc) (λ x b q k. search (rules, tests))
+    ∙ ap (every is_pair) (all_held t.count t.pairs c.held.ensures)) ∙ c.if-all.false)

@@ -1,41 +1,18 @@
--- `RegionConstraint::is_allowed` meets its contract: the rest of the pairs decides what all of them decide.
-use mathlib.Core.Path.{◌≡◌, refl, sym, ◌∙◌}
-use native.Mathlib.Omega.{arith}
-use lib.ListN.{length}
-use Rattle.base.proofs.Arrays.{unmapped}
-use Rattle.base.proofs.Arrays.{held_fits}
-use Rattle.base.proofs.Loops.{held_hit, held_on, held_end}
-use borrow.Author.Rules.{rules}
+-- `RegionConstraint::is_allowed` meets its contract: `any` over the pairs that are held.
+use mathlib.Core.Path.{ap, ◌∙◌}
+use lib.ListN.{take}
+use Rattle.std.proofs.Common.{rules}
+use Rattle.std.proofs.lemmas.Iterator.{YieldsList-from_slice}
+use borrow.Author.Tests.{tests}
+use Rattle.base.specs.Lists.{any}
+use Rattle.base.proofs.Arrays.{all_held}
+use Rattle.base.proofs.Chains.{any_ran}
+use Rattle.constraint.specs.Constraints.{allows}
 use Rattle.constraint.proofs.regions.RegionConstraint.is_allowed.Goals as goal
-
-pub loop-i-init : goal.loop-i-init
-loop-i-init c =
-    let t = c.args.self in
-    let w : length t.pairs ≡ 16 = search (unmapped, rules) in
-    (omega (arith, held_fits t.count t.pairs c.held-n.ensures), omega arith, refl)
-
-pub returns-then-is_of : goal.returns-then-is_of
-returns-then-is_of c =
-    let t = c.args.self in
-    let l = c.loop-i in
-    let h = c.held-n in
-    held_hit _ _ _ t.pairs t.count h.result l.i h.ensures l.invariant.2 _ c.loop-i-test.true
-    (sym c.is_of.ensures ∙ c.if-is_of.true)
-
-pub loop-i-preserved : goal.loop-i-preserved
-loop-i-preserved c =
-    let t = c.args.self in
-    let l = c.loop-i in
-    let h = c.held-n in (
-      omega arith,
-      omega arith,
-      held_on _ _ _ t.pairs t.count h.result l.i h.ensures l.invariant.2 _ c.loop-i-test.true
-          (sym c.is_of.ensures ∙ c.if-is_of.false),
-    )
 
 pub returns : goal.returns
 returns c =
     let t = c.args.self in
-    let l = c.loop-i in
-    let h = c.held-n in
-    held_end _ _ _ t.pairs t.count h.result l.i h.ensures l.invariant.2 (omega arith) (omega arith)
+    let p = allows c.args.x c.args.y in
+    any_ran p _ c.any.ensures.ran (YieldsList-from_slice (take c.held.result t.pairs) cc) (λ x b q k. search (rules, tests))
+    ∙ ap (any p) (all_held t.count t.pairs c.held.ensures)

@@ -1,7 +1,8 @@
 -- `RoleRequirement::holds` meets its contract: the teams' counts added are the count of both together.
 use Prim.Native.Nat.{◌+◌, ◌≤◌}
-use mathlib.Core.Path.{◌≡◌}
+use mathlib.Core.Path.{◌≡◌, ◌∙◌}
 use native.Mathlib.Omega.{arith}
+use borrow.Author.Tests.{lt-leb}
 use lib.ListN.{length, take, length-take}
 use Rattle.base.proofs.Arrays.{unmapped}
 use Rattle.roster.specs.Roster.{of_roles}
@@ -27,21 +28,22 @@ overflow_add-count c =
     let z : c.count_role.result + c.count_role-2.result ≤ 16 = omega arith in
     search rules
 
-pub returns-then-count-self : goal.returns-then-count-self
-returns-then-count-self c =
-    let a = c.args in
-    let m = c.args.proposed in
-    both_few (of_roles a.ids.now a.roles.now) (take m.a.len m.a.players) (take m.b.len m.b.players) a.self
-    c.count_role.ensures
-    c.count_role-2.ensures
-    c.if-count-self.true
-
-pub returns : goal.returns
-returns c =
+pub returns-then-self-count : goal.returns-then-self-count
+returns-then-self-count c =
     let a = c.args in
     let m = c.args.proposed in
     both_enough (of_roles a.ids.now a.roles.now) (take m.a.len m.a.players) (take m.b.len m.b.players) a.self
     c.count_role.ensures
     c.count_role-2.ensures
-    c.if-count-self.false
+    c.if-self-count.true
     c.is_within.ensures
+
+pub returns-else-self-count : goal.returns-else-self-count
+returns-else-self-count c =
+    let a = c.args in
+    let m = c.args.proposed in
+    lt-leb a.self.least (c.count_role.result + c.count_role-2.result) c.if-self-count.false
+    ∙ both_few (of_roles a.ids.now a.roles.now) (take m.a.len m.a.players) (take m.b.len m.b.players) a.self
+    c.count_role.ensures
+    c.count_role-2.ensures
+    c.if-self-count.false

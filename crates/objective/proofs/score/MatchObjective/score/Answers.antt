@@ -1,4 +1,4 @@
--- `MatchObjective::score` meets its contract: one law for each of its returns.
+-- One law for each of its returns.
 use Prim.Native.Nat.{ℕ, ◌+◌, ◌≤◌}
 use mathlib.Core.Path.{◌≡◌, refl, sym, ap, ◌∙◌}
 use mathlib.Core.List.{List, [], ◌∷◌, ◌++◌}
@@ -6,6 +6,8 @@ use native.Mathlib.Omega.{arith}
 use borrow.Author.Tests.{lt-ltb, le-ltb}
 use lib.ListN.{length, take, replicate, length-map, length-append}
 use lib.Seq.{length-take-le}
+use Rattle.std.specs.Prelude.{Err}
+use Rattle.base.specs.Refusals.{outcome_of}
 use Rattle.base.specs.Lists.{any}
 use Rattle.base.proofs.Arrays.{unmapped}
 use Rattle.queue.specs.Time as time
@@ -41,26 +43,18 @@ slice_bounds-players-end c =
     let eight_in_a : length c.args.proposed.a.players ≡ 8 = search (unmapped, rules) in
     let eight_in_b : length c.args.proposed.b.players ≡ 8 = search (unmapped, rules) in
     let m = c.args.proposed in
-    let u : length c.seated_players-everyone.result.players ≡ 16 = search (unmapped, rules) in
-    let fit = seats_fit m.a.players m.b.players m.a.len m.b.len eight_in_a eight_in_b refl c.seats-n.ensures in
-    omega arith
+    let u : length c.seated_players-everyone.result ≡ 16 = search (unmapped, rules) in
+    let fit = seats_fit m.a.players m.b.players m.a.len m.b.len eight_in_a eight_in_b refl c.seats.ensures in
+    sym (length-take-le c.seats.result c.seated_players-everyone.result (omega arith))
 
-pub slice_bounds-checked_rows-end : goal.slice_bounds-checked_rows-end
-slice_bounds-checked_rows-end c =
-    let eight_in_a : length c.args.proposed.a.players ≡ 8 = search (unmapped, rules) in
-    let eight_in_b : length c.args.proposed.b.players ≡ 8 = search (unmapped, rules) in
-    let m = c.args.proposed in
-    let u : length c.seated_players-everyone.result.players ≡ 16 = search (unmapped, rules) in
-    let fit = seats_fit m.a.players m.b.players m.a.len m.b.len eight_in_a eight_in_b refl c.seats-n.ensures in
-    sym (length-take-le c.seats-n.result c.seated_players-everyone.result.players (omega arith))
-
-pub returns-in-Refused : goal.returns-in-Refused
-returns-in-Refused c =
+pub returns-in_err-checked_rows : goal.returns-in_err-checked_rows
+returns-in_err-checked_rows c =
     let a = c.args in
     let r = of_deviations a.ids.now a.ratings.now a.deviations.now in
     let m = match_of a.proposed in
     let seated-fit = sym c.is_overfull.ensures ∙ c.if-is_overfull.false in
-    score_roster a.self r (queue_of a.queue) a.clock m seated-fit (le-ltb _ _ c.if-queue-gt64.false) _ c.checked_rows-checked.ensures.result_value c.in-Refused.is
+    let x : c.from_residual.result ≡ Err c.in_err-checked_rows.field-0.0 = search rules in
+    ap outcome_of x ∙ score_roster a.self r (queue_of a.queue) a.clock m seated-fit (le-ltb _ _ c.if-queue-gt64.false) _ c.checked_rows.ensures.result_value c.in_err-checked_rows.was
 
 pub returns-then-is_over : goal.returns-then-is_over
 returns-then-is_over c =
@@ -68,20 +62,10 @@ returns-then-is_over c =
     let r = of_deviations a.ids.now a.ratings.now a.deviations.now in
     let m = match_of a.proposed in
     let seated-fit = sym c.is_overfull.ensures ∙ c.if-is_overfull.false in
-    score_clock a.self r (queue_of a.queue) a.clock m seated-fit (le-ltb _ _ c.if-queue-gt64.false) _ c.checked_rows-checked.ensures.result_value c.in_default.is (sym c.is_over.ensures ∙ c.if-is_over.true)
+    score_clock a.self r (queue_of a.queue) a.clock m seated-fit (le-ltb _ _ c.if-queue-gt64.false) _ c.checked_rows.ensures.result_value c.in_ok-checked_rows.was (sym c.is_over.ensures ∙ c.if-is_over.true)
 
 pub slice_bounds-joined-end : goal.slice_bounds-joined-end
 slice_bounds-joined-end c =
-    let places : length c.args.queue.entries ≡ 64 = search (unmapped, rules) in
-    let q = c.args.queue in
-    let l = places in
-    let w : length c.columns-columns.result.joined ≡ 64 = ap (λ (k : Columns). length k.joined) c.columns-columns.ensures ∙ length-map q.entries (λ (e : QueueEntry). e.joined) ∙ l in
-    let short = c.if-queue-gt64.false in
-    let fits : q.len ≤ length c.columns-columns.result.joined = omega arith in
-    fits
-
-pub slice_bounds-any_over-end : goal.slice_bounds-any_over-end
-slice_bounds-any_over-end c =
     let places : length c.args.queue.entries ≡ 64 = search (unmapped, rules) in
     let q = c.args.queue in
     let l = places in
@@ -97,26 +81,8 @@ returns-then-any_over c =
     let m = match_of a.proposed in
     let seated-fit = sym c.is_overfull.ensures ∙ c.if-is_overfull.false in
     let joined-over = c.any_over.ensures ∙ ap (λ (k : Columns). any time.time_over (take a.queue.len k.joined)) c.columns-columns.ensures ∙ over_by_column a.queue.entries a.queue.len in
-    score_joined a.self r (queue_of a.queue) a.clock m seated-fit (le-ltb _ _ c.if-queue-gt64.false) _ c.checked_rows-checked.ensures.result_value c.in_default.is
+    score_joined a.self r (queue_of a.queue) a.clock m seated-fit (le-ltb _ _ c.if-queue-gt64.false) _ c.checked_rows.ensures.result_value c.in_ok-checked_rows.was
     (sym c.is_over.ensures ∙ c.if-is_over.false) (sym joined-over ∙ c.if-any_over.true)
-
-pub slice_bounds-players-end-2 : goal.slice_bounds-players-end-2
-slice_bounds-players-end-2 c =
-    let eight_in_a : length c.args.proposed.a.players ≡ 8 = search (unmapped, rules) in
-    let eight_in_b : length c.args.proposed.b.players ≡ 8 = search (unmapped, rules) in
-    let m = c.args.proposed in
-    let u : length c.seated_players-everyone.result.players ≡ 16 = search (unmapped, rules) in
-    let fit = seats_fit m.a.players m.b.players m.a.len m.b.len eight_in_a eight_in_b refl c.seats-n.ensures in
-    omega arith
-
-pub slice_bounds-longest_wait-end : goal.slice_bounds-longest_wait-end
-slice_bounds-longest_wait-end c =
-    let eight_in_a : length c.args.proposed.a.players ≡ 8 = search (unmapped, rules) in
-    let eight_in_b : length c.args.proposed.b.players ≡ 8 = search (unmapped, rules) in
-    let m = c.args.proposed in
-    let u : length c.seated_players-everyone.result.players ≡ 16 = search (unmapped, rules) in
-    let fit = seats_fit m.a.players m.b.players m.a.len m.b.len eight_in_a eight_in_b refl c.seats-n.ensures in
-    sym (length-take-le c.seats-n.result c.seated_players-everyone.result.players (omega arith))
 
 pub slice_bounds-waiting-end : goal.slice_bounds-waiting-end
 slice_bounds-waiting-end c =
@@ -126,37 +92,7 @@ slice_bounds-waiting-end c =
     let w : length c.columns-columns.result.players ≡ 64 = ap (λ (k : Columns). length k.players) c.columns-columns.ensures ∙ length-map q.entries (λ (e : QueueEntry). e.player) ∙ l in
     let short = c.if-queue-gt64.false in
     let fits : q.len ≤ length c.columns-columns.result.players = omega arith in
-    fits
-
-pub slice_bounds-longest_wait-end-2 : goal.slice_bounds-longest_wait-end-2
-slice_bounds-longest_wait-end-2 c =
-    let places : length c.args.queue.entries ≡ 64 = search (unmapped, rules) in
-    let q = c.args.queue in
-    let l = places in
-    let w : length c.columns-columns.result.players ≡ 64 = ap (λ (k : Columns). length k.players) c.columns-columns.ensures ∙ length-map q.entries (λ (e : QueueEntry). e.player) ∙ l in
-    let short = c.if-queue-gt64.false in
-    let fits : q.len ≤ length c.columns-columns.result.players = omega arith in
     sym (length-take-le q.len c.columns-columns.result.players fits)
-
-pub slice_bounds-joined-end-2 : goal.slice_bounds-joined-end-2
-slice_bounds-joined-end-2 c =
-    let places : length c.args.queue.entries ≡ 64 = search (unmapped, rules) in
-    let q = c.args.queue in
-    let l = places in
-    let w : length c.columns-columns.result.joined ≡ 64 = ap (λ (k : Columns). length k.joined) c.columns-columns.ensures ∙ length-map q.entries (λ (e : QueueEntry). e.joined) ∙ l in
-    let short = c.if-queue-gt64.false in
-    let fits : q.len ≤ length c.columns-columns.result.joined = omega arith in
-    fits
-
-pub slice_bounds-longest_wait-end-3 : goal.slice_bounds-longest_wait-end-3
-slice_bounds-longest_wait-end-3 c =
-    let places : length c.args.queue.entries ≡ 64 = search (unmapped, rules) in
-    let q = c.args.queue in
-    let l = places in
-    let w : length c.columns-columns.result.joined ≡ 64 = ap (λ (k : Columns). length k.joined) c.columns-columns.ensures ∙ length-map q.entries (λ (e : QueueEntry). e.joined) ∙ l in
-    let short = c.if-queue-gt64.false in
-    let fits : q.len ≤ length c.columns-columns.result.joined = omega arith in
-    sym (length-take-le q.len c.columns-columns.result.joined fits)
 
 pub returns : goal.returns
 returns c =
@@ -167,12 +103,12 @@ returns c =
     let m = match_of a.proposed in
     let seated-fit = sym c.is_overfull.ensures ∙ c.if-is_overfull.false in
     let joined-over = c.any_over.ensures ∙ ap (λ (k : Columns). any time.time_over (take a.queue.len k.joined)) c.columns-columns.ensures ∙ over_by_column a.queue.entries a.queue.len in
-    let k = c.checked_rows-checked in
-    let passed = c.in_default.is in
+    let k = c.checked_rows in
+    let passed = c.in_ok-checked_rows.was in
     let even = passed_even a.ids.now (length a.ratings.now ∷ length a.deviations.now ∷ []) [] k.result passed k.ensures.result_value in
     let first = even_first (length a.ids.now) (length a.ratings.now) (length a.deviations.now ∷ []) even in
     let second = even_first (length a.ids.now) (length a.deviations.now) [] first.1 in
-    let everyone = ap (λ (n : ℕ). take n c.seated_players-everyone.result.players) c.seats-n.ensures ∙ c.seated_players-everyone.ensures.players_value in
+    let everyone = ap (λ (n : ℕ). take n c.seated_players-everyone.result) c.seats.ensures ∙ c.seated_players-everyone.ensures.players_value in
     let x = m.a.players in
     let y = m.b.players in
     let sheet : List ℕ = replicate 16 0 in

@@ -1,9 +1,0 @@
--- `frontdesk::listing::accepted` is safe and ends.
-use Rattle.std.proofs.Common.{◌-◌}
-use Rattle.frontdesk.proofs.listing.accepted.Given as goal
-
-abbrev pub invariant-loop-i : goal.invariant-loop-i
-invariant-loop-i l = Unit {0}
-
-abbrev pub decreases-loop-i : goal.decreases-loop-i
-decreases-loop-i l = 1024 - l.i

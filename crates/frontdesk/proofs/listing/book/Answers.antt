@@ -1,8 +1,0 @@
--- `frontdesk::listing::book` is safe and ends.
-use Rattle.frontdesk.proofs.listing.book.Goals as goal
-
-pub loop-i-init : goal.loop-i-init
-loop-i-init c = tt
-
-pub loop-i-preserved : goal.loop-i-preserved
-loop-i-preserved c = tt

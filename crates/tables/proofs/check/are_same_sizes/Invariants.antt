@@ -1,9 +1,0 @@
--- `tables::check::are_same_sizes` is safe and ends. The measure is what is left of the games.
-use Rattle.std.proofs.Common.{◌-◌}
-use Rattle.tables.proofs.check.are_same_sizes.Given as goal
-
-abbrev pub invariant-loop-i : goal.invariant-loop-i
-invariant-loop-i l = Unit {0}
-
-abbrev pub decreases-loop-i : goal.decreases-loop-i
-decreases-loop-i l = 8 - l.i

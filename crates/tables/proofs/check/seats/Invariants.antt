@@ -1,9 +1,0 @@
--- `tables::check::seats` is safe and ends. The measure is what is left of the matches.
-use Rattle.std.proofs.Common.{◌-◌}
-use Rattle.tables.proofs.check.seats.Given as goal
-
-abbrev pub invariant-loop-i : goal.invariant-loop-i
-invariant-loop-i l = Unit {0}
-
-abbrev pub decreases-loop-i : goal.decreases-loop-i
-decreases-loop-i l = l.matches - l.i

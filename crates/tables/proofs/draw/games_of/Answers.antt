@@ -1,8 +1,0 @@
--- `tables::draw::games_of` is safe and ends. The measure is what is left of the games.
-use Rattle.tables.proofs.draw.games_of.Goals as goal
-
-pub loop-i-init : goal.loop-i-init
-loop-i-init c = tt
-
-pub loop-i-preserved : goal.loop-i-preserved
-loop-i-preserved c = tt

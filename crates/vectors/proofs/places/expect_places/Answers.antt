@@ -1,8 +1,0 @@
--- `vectors::places::expect_places` is safe and ends. The measure is what is left of the places.
-use Rattle.vectors.proofs.places.expect_places.Goals as goal
-
-pub loop-i-init : goal.loop-i-init
-loop-i-init c = tt
-
-pub loop-i-preserved : goal.loop-i-preserved
-loop-i-preserved c = tt

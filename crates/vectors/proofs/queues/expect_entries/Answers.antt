@@ -1,8 +1,0 @@
--- `vectors::queues::expect_entries` is safe and ends. The measure is what is left of the entries.
-use Rattle.vectors.proofs.queues.expect_entries.Goals as goal
-
-pub loop-i-init : goal.loop-i-init
-loop-i-init c = tt
-
-pub loop-i-preserved : goal.loop-i-preserved
-loop-i-preserved c = tt

@@ -1,8 +1,0 @@
--- `vectors::sheets::expect_qualities` is safe and ends. The measure is what is left of the sheet.
-use Rattle.vectors.proofs.sheets.expect_qualities.Goals as goal
-
-pub loop-i-init : goal.loop-i-init
-loop-i-init c = tt
-
-pub loop-i-preserved : goal.loop-i-preserved
-loop-i-preserved c = tt

@@ -1,9 +1,0 @@
--- `vectors::tally::total` is safe and ends. The measure is what is left of the counts.
-use Rattle.std.proofs.Common.{◌-◌}
-use Rattle.vectors.proofs.tally.total.Given as goal
-
-abbrev pub invariant-loop-i : goal.invariant-loop-i
-invariant-loop-i l = Unit {0}
-
-abbrev pub decreases-loop-i : goal.decreases-loop-i
-decreases-loop-i l = 32 - l.i
