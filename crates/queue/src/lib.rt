@@ -128,17 +128,26 @@ impl Queue {
     pub fn players(self) -> [u64; 64]
         ensures { result ≡ map (λ e. e.player) self.entries }
     {
-        self.entries.map(|entry| entry.player)
+        let mut ids = [0; 64];
+        for i in 0..64 {
+            ids[i] = self.entries[i].player;
+        }
+        ids
     }
 
     // The player and the joined time at each place, read once.
     pub fn columns(self) -> Columns
         ensures { result ≡ columns_of self }
     {
-        Columns {
-            players: self.entries.map(|entry| entry.player),
-            joined: self.entries.map(|entry| entry.joined),
+        let mut columns = Columns {
+            players: [0; 64],
+            joined: [0; 64],
+        };
+        for k in 0..64 {
+            columns.players[k] = self.entries[k].player;
+            columns.joined[k] = self.entries[k].joined;
         }
+        columns
     }
 
     // Is a joined time above 2^53? Whatever length is stated.
