@@ -3,16 +3,18 @@
 use Prim.Native.Nat.{ℕ, zero, suc, ◌+◌, ◌-◌, ◌*◌, ◌/◌, ◌%◌, ◌≤◌, ◌<◌, min}
 use mathlib.Core.Path.{◌≡◌, refl, sym, ap, ◌∙◌}
 use mathlib.Core.Bool.{Bool, true, false, cond, ◌||◌}
-use mathlib.Core.List.{List, [], ◌∷◌, ◌++◌, map, map-map}
+use mathlib.Core.List.{List, [], ◌∷◌, ◌++◌, map, map-map, map-append}
 use Rattle.std.specs.Prelude.{unwrap_or, Result, Ok, Err}
-use native.Mathlib.Nat.{le_of_suc-le-suc, not-suc-le-zero, suc-mul}
+use native.Mathlib.Nat.{le_of_suc-le-suc, not-suc-le-zero, suc-mul, mul-le-mul_right}
+use native.Mathlib.Numerals.{add-one}
 use native.Mathlib.Omega.{arith}
 use Rattle.std.proofs.lemmas.Nat.{div-mul-add, div-add-mod', div_below}
 use borrow.Author.Tests.{lt-ltb, le-ltb, ltb-true, ltb-false, eq-eqb, ne_eqb}
 use lib.Dec.{ltb, eqb}
 use lib.Ieee.{Float}
 use lib.ListN.{length, take, drop, get_or, replicate, length-map, length-drop, length-append, length-take, length-replicate, get_or-map}
-use lib.Seq.{length-take-le, take_all, take-take, take_at, get_or-take}
+use lib.Seq.{length-take-le, take_all, take-nil, take-take, take-add, take_at, get_or-take}
+use borrow.Rule.Slice.PartMut.{put_mid}
 use Rattle.base.specs.declared.Refusal.{Refusal}
 use Rattle.base.specs.Floats as Floats
 use Rattle.base.specs.Lists.{any, All, places_from}
@@ -41,7 +43,7 @@ use Rattle.seating.specs.Seating.{Sheets, sizes_over, are_short, seats_of, seats
 use Rattle.seating.specs.Searching.{search_check}
 use Rattle.seating.specs.Steps.{overlaid}
 use Rattle.seating.proofs.Handing.{handed_refused, handed_on, handed_out_lem}
-use Rattle.seating.proofs.Laws.{length_seats}
+use Rattle.seating.proofs.Laws.{lent_second, length_seats}
 use Rattle.candidate.specs.Nearest.{thousand, rating_for, rising, chunks, nearest_matches, cannot_rank, nearest_rule, rating_by}
 use Rattle.candidate.specs.Steps.{how_many}
 use Rattle.candidate.proofs.Chunks.{consecutive, exact, length_rising, matches_fit, seats_fit}
@@ -138,6 +140,36 @@ module _ (s : TeamComposition) where
   unfolding chunks
   chunks_short zero ps h = refl
   chunks_short (suc k) ps h = rw (lt-ltb (length ps) (seats_of s) h)
+
+-- ---- players written in the order of their places
+
+-- the players at the first n places
+abbrev pub at_places : List ℕ → List ℕ → ℕ → List ℕ
+at_places ws places n = map (λ p. get_or ws p 0) (take n places)
+
+-- what holds of the first n holds of a part of them
+pub all_part : {A : Type 0} (P : A → Type 0) (at k n : ℕ) (xs : List A) → at + k ≤ n → All P (take n xs) → All P (take k (drop at xs))
+all_part P zero k n xs h a = rw (← take-take k n xs (omega arith)) (all_take P k (take n xs) a)
+all_part P (suc at) k n [] h a = rw (take-nil k) tt
+all_part P (suc at) k zero (x ∷ xs) h a = absurd (omega arith)
+all_part P (suc at) k (suc n) (x ∷ xs) h a = all_part P at k n xs (omega arith) a.1
+
+-- a match more, in the part that was lent behind the matches so far
+pub match_on : (ws places : List ℕ) (at seats : ℕ) (sheet now : List ℕ) {l : List ℕ} → at ≤ length places → at ≤ length sheet → now ≡ overlaid (at_places ws places at) sheet → l ≡ overlaid (at_places ws (drop at places) seats) (take (length now - at) (drop at now)) → put_mid at (length now - at) now l ≡ overlaid (at_places ws places (at + seats)) sheet
+match_on ws places at seats sheet now fits room inv h =
+    let f : ℕ → ℕ = λ p. get_or ws p 0 in
+    let n : length (at_places ws places at) ≡ at = length-map (take at places) f ∙ length-take-le at places fits in
+    let e : at_places ws places at ++ at_places ws (drop at places) seats ≡ at_places ws places (at + seats) =
+    sym (map-append f (take at places) (take seats (drop at places))) ∙ ap (map f) (sym (take-add at seats places)) in
+    lent_second (at_places ws places at) (at_places ws (drop at places) seats) sheet at (omega (arith, n)) inv h ∙ ap (λ (r : List ℕ). overlaid r sheet) e
+
+-- the matches so far and one more seat no more than all
+pub match_fits : (count seats i : ℕ) → i < count → i * seats + seats ≤ count * seats
+match_fits count seats i h = let e = mul-le-mul_right seats h in omega (arith, e, suc-mul i seats)
+
+-- and they are one match more
+pub match_counts : (seats i at : ℕ) → at ≡ i * seats → at + seats ≡ (i + 1) * seats
+match_counts seats i at e = rw (e, add-one i) (sym (suc-mul i seats))
 
 -- ---- the order of places, and that of entries
 

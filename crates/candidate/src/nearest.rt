@@ -57,13 +57,32 @@ fn matches_of(seats: usize, limit: usize, n: usize) -> usize
     base::at_most(n / seats, limit)
 }
 
-// The players at these places, one match behind another, over the front of the sheet.
-fn write_matches(waiting: &[u64; 64], places: &[usize], sheet: &mut [u64])
-    requires { (length places.now ≤ length sheet.old) × All (λ p. p < 64) places.now }
-    ensures { sheet.new ≡ overlaid (map (λ p. get_or waiting.now p 0) places.now) sheet.old }
+// One match: the players at these places, over the front of the part of the sheet that it is lent.
+fn write_match(waiting: &[u64; 64], places: &[usize], part: &mut [u64])
+    requires { (length places.now ≤ length part.old) × All (λ p. p < 64) places.now }
+    ensures { part.new ≡ overlaid (map (λ p. get_or waiting.now p 0) places.now) part.old }
 {
     for (i, &place) in places.iter().enumerate() {
-        sheet[i] = waiting[place];
+        part[i] = waiting[place];
+    }
+}
+
+// Every match of so many seats into the rest of the sheet, the part behind the matches so far.
+fn write_matches(
+    waiting: &[u64; 64],
+    places: &[usize; 64],
+    seats: usize,
+    count: usize,
+    sheet: &mut [u64],
+)
+    requires seats_bound { (count * seats ≤ 64) × (64 ≤ length sheet.old) }
+    requires all { All (λ p. p < 64) (take (count * seats) places.now) }
+    ensures { sheet.new ≡ overlaid (map (λ p. get_or waiting.now p 0) (take (count * seats) places.now)) sheet.old }
+{
+    let mut at = 0;
+    for _ in 0..count {
+        write_match(waiting, &places[at..at + seats], &mut sheet[at..]);
+        at += seats;
     }
 }
 
@@ -92,7 +111,7 @@ impl GreedyNearestGenerator {
         let order = by_rating(&waiting[..queue.len], ids, ratings)?;
         let places = order.places;
         let count = matches_of(seats, self.max, queue.len);
-        write_matches(&waiting, &places[..count * seats], players);
+        write_matches(&waiting, &places, seats, count, players);
         seating::write_qualities([0.0; 64], count, qualities);
         Ok(count)
     }

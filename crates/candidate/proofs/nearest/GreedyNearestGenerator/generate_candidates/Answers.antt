@@ -74,30 +74,6 @@ returns-in_err-order c =
 pub matches_of-count-requires : goal.matches_of-count-requires
 matches_of-count-requires c = let z = c.if-seats-eq0.false in omega arith
 
-pub overflow_mul-places : goal.overflow_mul-places
-overflow_mul-places c =
-    let a = c.args in
-    let r = of_ratings a.ids.now a.ratings.now in
-    let h = passed_check a.sizes r (queue_of a.queue) (length a.players.now) (length a.qualities.now) _ c.in_ok-check.was c.check.ensures in
-    let f : c.matches_of-count.result * seats_of a.sizes ≤ a.queue.len = rw c.matches_of-count.ensures (many_fit a.sizes a.self.max a.queue.len) in
-    omega (arith, f, h.queue)
-
-pub slice_bounds-places-end : goal.slice_bounds-places-end
-slice_bounds-places-end c =
-    let a = c.args in
-    let r = of_ratings a.ids.now a.ratings.now in
-    let h = passed_check a.sizes r (queue_of a.queue) (length a.players.now) (length a.qualities.now) _ c.in_ok-check.was c.check.ensures in
-    let f : c.matches_of-count.result * seats_of a.sizes ≤ a.queue.len = rw c.matches_of-count.ensures (many_fit a.sizes a.self.max a.queue.len) in
-    omega (arith, f, h.queue)
-
-pub slice_bounds-write_matches-end : goal.slice_bounds-write_matches-end
-slice_bounds-write_matches-end c =
-    let a = c.args in
-    let r = of_ratings a.ids.now a.ratings.now in
-    let h = passed_check a.sizes r (queue_of a.queue) (length a.players.now) (length a.qualities.now) _ c.in_ok-check.was c.check.ensures in
-    let f : c.matches_of-count.result * seats_of a.sizes ≤ a.queue.len = rw c.matches_of-count.ensures (many_fit a.sizes a.self.max a.queue.len) in
-    search (f, h.queue, rules)
-
 pub write_matches-requires : goal.write_matches-requires
 write_matches-requires c =
     let a = c.args in
@@ -110,7 +86,7 @@ write_matches-requires c =
     let o = c.in_ok-order.order in
     let g = has_risen (map (rating_for r) (take a.queue.len a.queue.entries)) (order_given r a.queue.entries a.queue.len _ c.players-waiting.ensures c.by_rating.ensures c.in_ok-order.was) in
     let t = seated_row r a.queue.entries a.queue.len (c.matches_of-count.result * seats_of a.sizes) o.len o.places (omega (arith, h.queue)) f c.players-waiting.ensures g.1 in
-    (simp length-take (omega (arith, f, h.queue, h.players_fit)), all_below a.queue.len 64 h.queue (take (c.matches_of-count.result * seats_of a.sizes) o.places) t.0)
+    record { seats_bound = (omega (arith, f, h.queue), h.players_fit); all = all_below a.queue.len 64 h.queue (take (c.matches_of-count.result * seats_of a.sizes) o.places) t.0 }
 
 pub returns : goal.returns
 returns c =
