@@ -1,11 +1,14 @@
--- The laws of parties, ratings and regions: the rows of a party, the answers of each kind, and what bringing nothing,
+-- The laws of parties, ratings and regions: the rows of a party and the turns of a loop over them, the answers of each kind, and what bringing nothing,
 -- an empty list of pairs and a pair turned round come to.
-use Prim.Native.Nat.{ℕ}
-use mathlib.Core.Path.{◌≡◌, refl, ap}
+use Prim.Native.Nat.{ℕ, ◌+◌, ◌≤◌, ◌<◌}
+use mathlib.Core.Path.{◌≡◌, refl, sym, ap, ◌∙◌}
 use mathlib.Core.Bool.{Bool, true, false, not, ◌&&◌, or_comm, and-false}
 use mathlib.Core.List.{List, [], ◌∷◌}
-use borrow.Author.Tests.{ne_eqb}
+use native.Mathlib.Numerals.{add-one}
+use borrow.Author.Tests.{not-true, not-false, ne_eqb}
 use lib.Dec.{eqb}
+use lib.ListN.{length, drop, get_or, drop_of_length-le}
+use lib.Seq.{drop-cons}
 use Rattle.std.specs.List.{zip}
 use Rattle.base.proofs.Cases.{cases}
 use Rattle.base.specs.Lists.{seek, every, member}
@@ -29,6 +32,33 @@ seated_rows players party [] parties = refl
 seated_rows players party (id ∷ ids) [] = refl
 seated_rows players party (id ∷ ids) (p ∷ parties) =
     cases (eqb p party && not (member id players)) (λ t. rw t) (λ f. rw f (seated_rows players party ids parties))
+
+-- a party without rows is seated
+no_rows : (players : List ℕ) (party : ℕ) (ids : List ℕ) → party_seated ids [] players party ≡ true
+unfolding party_seated
+no_rows players party [] = refl
+no_rows players party (id ∷ ids) = refl
+
+module _ (players : List ℕ) (party : ℕ) (ids parties : List ℕ) (i : ℕ) (inv : party_seated ids parties players party ≡ party_seated (drop i ids) (drop i parties) players party) where
+  -- no id is left
+  pub seated_end : length ids ≤ i → true ≡ party_seated ids parties players party
+  unfolding party_seated
+  seated_end h = sym (inv ∙ rw (drop_of_length-le ids h))
+
+  -- no party is left
+  pub seated_short : length parties ≤ i → true ≡ party_seated ids parties players party
+  seated_short h = sym (inv ∙ rw (drop_of_length-le parties h) (no_rows players party (drop i ids)))
+
+  module _ (h : i < length ids) (k : i < length parties) where
+    -- the row at i is of the party, and its player is not among them
+    pub seated_not : not (eqb (get_or parties i 0) party && not (member (get_or ids i 0) players)) ≡ false → false ≡ party_seated ids parties players party
+    unfolding party_seated
+    seated_not e = sym (inv ∙ rw (drop-cons ids i 0 h, drop-cons parties i 0 k, not-false (eqb (get_or parties i 0) party && not (member (get_or ids i 0) players)) e))
+
+    -- the row at i passes: the rest decides
+    pub seated_on : not (eqb (get_or parties i 0) party && not (member (get_or ids i 0) players)) ≡ true → party_seated ids parties players party ≡ party_seated (drop (i + 1) ids) (drop (i + 1) parties) players party
+    unfolding party_seated
+    seated_on e = inv ∙ rw (drop-cons ids i 0 h, drop-cons parties i 0 k, not-true (eqb (get_or parties i 0) party && not (member (get_or ids i 0) players)) e, add-one i)
 
 -- parties hold exactly where everyone on a list of those seated has the whole party on that list
 pub parties_read : (r : Roster) (m : MatchState) (everyone : List ℕ) → everyone ≡ seated m → every (λ player. party_together r everyone (party_of r player)) everyone ≡ parties_hold r m

@@ -21,9 +21,15 @@ fn row_passes(players: &[u64], id: u64, row: u64, party: u64) -> bool
 fn is_party_seated(players: &[u64], ids: &[u64], parties: &[u64], party: u64) -> bool
     ensures { result ≡ party_seated ids.now parties.now players.now party }
 {
-    ids.iter()
-        .zip(parties)
-        .all(|(&id, &row)| row_passes(players, id, row, party))
+    for row in 0..ids.len() {
+        if parties.len() <= row {
+            return true;
+        }
+        if !row_passes(players, ids[row], parties[row], party) {
+            return false;
+        }
+    }
+    true
 }
 
 // Is every row of the party among these players? Party 0 is none.
