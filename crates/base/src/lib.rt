@@ -116,9 +116,13 @@ pub fn at_most(n: usize, limit: usize) -> usize
 }
 
 // Is the number among these?
-#[tactic(auto, using(crate::proofs::Chains::any_of_list))]
 pub fn is_among(numbers: &[u64], number: u64) -> bool
     ensures { result ≡ member number numbers.now }
 {
-    numbers.contains(&number)
+    for &other in numbers {
+        if other == number {
+            return true;
+        }
+    }
+    false
 }

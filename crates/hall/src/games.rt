@@ -13,7 +13,12 @@ use seating::TeamComposition;
 fn any_over(sizes: [TeamComposition; 8]) -> bool
     ensures { result ≡ any sizes_over sizes }
 {
-    sizes.iter().any(|game| game.is_over())
+    for g in 0..8 {
+        if sizes[g].is_over() {
+            return true;
+        }
+    }
+    false
 }
 
 // Is one of the sizes over 8, or the last game served neither 0 to 7 nor none?

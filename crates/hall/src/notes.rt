@@ -12,7 +12,13 @@ pub fn place_of(keys: &[u64], n: usize, key: u64) -> usize
     ensures { result ≡ place (λ x. eqb x key) (take n keys.now) }
 {
     let book = &keys[..base::at_most(n, keys.len())];
-    book.iter().position(|k| *k == key).unwrap_or(book.len())
+    for i in 0..book.len() {
+        let is_key = book[i] == key;
+        if is_key {
+            return i;
+        }
+    }
+    book.len()
 }
 
 // The answer that was noted of a booking, and 7 where the number stands for none.

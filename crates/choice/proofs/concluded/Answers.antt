@@ -1,8 +1,7 @@
 -- Refusal 5, or the best where one was found.
-use mathlib.Core.Path.{refl, ap, ◌∙◌}
-use Rattle.std.specs.Prelude.{Option, option_map}
-use Rattle.base.specs.Refusals.{gives}
-use Rattle.matchmaker.specs.Quality.{MatchState, match_of}
+use native.Mathlib.Omega.{arith}
+use mathlib.Core.Path.{refl, ◌∙◌}
+use Rattle.matchmaker.specs.Quality.{match_of}
 use Rattle.choice.proofs.Stepping.{concludes_refused, concludes_given, found_teams}
 use Rattle.choice.proofs.concluded.Goals as goal
 
@@ -14,6 +13,4 @@ returns-then-best c =
 pub returns : goal.returns
 returns c =
     let s = c.args.best in
-    let teams = found_teams s.found s.teams s.score in
-    ap (λ (o : Option MatchState). gives (record { best = o; tried = s.tried })) (ap (option_map match_of) c.then_some.ensures ∙ teams)
-    ∙ concludes_given s.tried s.found s.many s.nan (record { teams = match_of s.teams; score = s.score }) refl c.if-best.false
+    (grind (arith, found_teams)) ∙ concludes_given s.tried s.found s.many s.nan (record { teams = match_of s.teams; score = s.score }) refl c.if-best.false
